@@ -9,7 +9,7 @@ use crate::Marks;
 // The cell n is in the set where byte n is not 0.
 #[derive(Drop)]
 pub struct ByteMarks {
-    cells: [u8; 4096],
+    cells: [u8; CELLS as usize],
 }
 
 impl ByteMarks {
@@ -17,7 +17,9 @@ impl ByteMarks {
     pub fn new() -> Self
         ensures { λ r. ⌜ byteSet (r .cells) ≡ none ⌝ }
     {
-        ByteMarks { cells: [0; 4096] }
+        ByteMarks {
+            cells: [0; CELLS as usize],
+        }
     }
 }
 
@@ -25,7 +27,7 @@ pub impl Marks for ByteMarks as ByteKeeper {
     ghost has = { λ keeper. byteSet (keeper .cells) };
 
     fn clear(&mut self) {
-        self.cells = [0; 4096];
+        self.cells = [0; CELLS as usize];
     }
 
     fn mark(&mut self, n: u64) {
