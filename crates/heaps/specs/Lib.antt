@@ -1,0 +1,7 @@
+pub mod Lists
+pub mod Leads
+pub mod Spelling
+pub mod Reached
+pub mod Levels
+pub mod Rules
+pub mod Laws
