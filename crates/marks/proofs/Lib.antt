@@ -1,0 +1,5 @@
+pub mod Sets
+pub mod Counts
+mod Zeros
+mod OneBit
+mod BitSets
