@@ -47,7 +47,7 @@ turned-at f xs k d x h is =
 reverse-take : {A : Type 0} (k : ℕ) (xs : List A) → reverse (take k xs) ≡ drop (length xs - k) (reverse xs)
 reverse-take k xs =
     let whole : reverse xs ≡ reverse (drop k xs) ++ reverse (take k xs) =
-          ap reverse (sym (take-append-drop k xs)) ∙ reverse-append (take k xs) (drop k xs) in
+    ap reverse (sym (take-append-drop k xs)) ∙ reverse-append (take k xs) (drop k xs) in
     let long : length (reverse (drop k xs)) ≡ length xs - k = length-reverse (drop k xs) ∙ length-drop k xs in
     sym (ap (drop (length xs - k)) whole ∙ drop-at (reverse (drop k xs)) (reverse (take k xs)) (length xs - k) long)
 
@@ -61,15 +61,19 @@ reverse-set {A} zs k y h = same-lists _ _ (length-reverse (set zs p y) ∙ lengt
   where
     p : ℕ
     p = length zs - 1 - k
+
     at-place : (j : ℕ) (d : A) → j < length (reverse (set zs p y)) → getD (reverse (set zs p y)) j d ≡ getD (set (reverse zs) k y) j d
     at-place j d low = by-place (cases-eq j k)
       where
         n : length (set zs p y) ≡ length zs
         n = length-set zs p y
+
         inside : j < length zs
         inside = omega (arith, length-reverse (set zs p y), n)
+
         turned : getD (reverse (set zs p y)) j d ≡ getD (set zs p y) (length zs - 1 - j) d
         turned = getD-reverse (set zs p y) j d (omega (arith, n, inside)) ∙ ap (λ m. getD (set zs p y) (m - 1 - j) d) n
+
         by-place : (j ≡ k) ⊎ (j ≡ k → ⊥) → getD (reverse (set zs p y)) j d ≡ getD (set (reverse zs) k y) j d
         by-place (inl e) =
             turned ∙ ap (λ q. getD (set zs p y) (length zs - 1 - q) d) e ∙ getD-set-same zs p y d (omega (arith, h))
