@@ -2,7 +2,7 @@
 
 use Prim.Native.Nat.{ℕ, zero, suc, _/_, _%_, _^_}
 use mathlib.Core.Path.{_≡_, refl, ap, fun-ext, _∙_}
-use mathlib.Core.Bool.{Bool, true, false, not}
+use mathlib.Core.Bool.{false, not}
 use native.Mathlib.Nat.{zero-div}
 use lib.Dec.{eqb}
 use lib.ListN.{getD, replicate}

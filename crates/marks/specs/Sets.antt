@@ -2,7 +2,7 @@
 -- A set is its membership test: n is a member of s where s n is true.
 
 use Prim.Native.Nat.{ℕ, zero, suc, _+_}
-use mathlib.Core.Bool.{Bool, true, false, cond, _||_}
+use mathlib.Core.Bool.{Bool, false, cond, _||_}
 use lib.Dec.{eqb, ltb}
 
 -- whether a cell has the number n: the heap has 4,096 cells

@@ -12,9 +12,9 @@ choiceOf p = record { saved = map cellOf (p .saved); heapTop = p .«heap_top»; 
 -- the newest choice point stands last in memory and first in the list
 abbrev pub tablesOf : Memory → Tables
 tablesOf m =
-    record
-      { heap = map cellOf (listed (m .heap))
-      ; registers = map cellOf (m .registers)
-      ; trail = listed (m .trail)
-      ; choices = reverse (map choiceOf (listed (m .choices)))
-      }
+    record {
+      heap = map cellOf (listed (m .heap));
+      registers = map cellOf (m .registers);
+      trail = listed (m .trail);
+      choices = reverse (map choiceOf (listed (m .choices)));
+    }

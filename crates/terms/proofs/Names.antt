@@ -47,7 +47,7 @@ mem-without x y (z ∷ zs) e ne = test (eqb z x) refl (or-cases _ _ e) (mem-with
     test false h (inl p) f = or-left _ _ p
     test false h (inr p) f = or-right _ _ (f p ne)
 
--- the variables of a tree
+-- The variables of a tree, each as often as it occurs.
 abbrev pub names : {s : Sort} → Tree s → List ℕ
 names (var n) = n ∷ []
 names (node l ts) = names ts
@@ -67,6 +67,9 @@ names-all x (var n) e = or-left _ _ e
 names-all x (node l ts) e = names-all x ts e
 names-all x nil e = e
 names-all x (cons t ts) e = elim (or-cases _ _ e) [ inl p ↦ mem-left x (names t) (names ts) (names-all x t p) | inr p ↦ mem-right x (names t) (names ts) (names-all x ts p) ]
+
+pub names-two : {s : Sort} (x : ℕ) (t u : Tree s) → (occurs x t || occurs x u) ≡ true → mem x (names t ++ names u) ≡ true
+names-two x t u e = elim (or-cases _ _ e) [ inl p ↦ mem-left x (names t) (names u) (names-all x t p) | inr p ↦ mem-right x (names t) (names u) (names-all x u p) ]
 
 pub names-length : {s : Sort} (t : Tree s) → length (names t) ≡ variables t
 names-length (var n) = refl

@@ -1,7 +1,6 @@
 -- The tests for identity say true exactly of what is equal.
 use mathlib.Core.Path.{_≡_, refl, ap, ap₂, subst}
 use mathlib.Core.Bool.{true, false}
-use mathlib.Core.Logic.{_↔_}
 use lib.Dec.{eqb}
 use lib.IntN.{ℤ, pos, negsuc}
 use Rattle.std.proofs.shelf.Tests.{both-ways, eqb-true, eq-eqb, and-parts, and-from}

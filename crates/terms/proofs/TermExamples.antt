@@ -2,9 +2,8 @@
 use mathlib.Core.Path.{_≡_, refl}
 use mathlib.Core.Bool.{true, false}
 use mathlib.Core.Option.{Option, some, none}
-use Prim.Native.Nat.{ℕ}
 use lib.IntN.{pos}
-use Rattle.terms.specs.Terms.{named, whole, functor, Term, Terms, var, node, nil, cons, apply, only, sameTree}
+use Rattle.terms.specs.Terms.{named, whole, functor, Term, var, node, nil, cons, apply, only, sameTree}
 use Rattle.terms.specs.Unifiers.{Subst}
 use Rattle.terms.specs.Robinson.{unify}
 

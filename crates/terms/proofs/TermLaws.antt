@@ -4,7 +4,7 @@ use mathlib.Core.Bool.{Bool, true, false, cond, _||_}
 use Prim.Native.Nat.{ℕ, suc, _+_, _≤_}
 use native.Mathlib.Omega.{arith}
 use lib.Dec.{eqb}
-use Rattle.std.proofs.shelf.Tests.{both-ways, eqb-true, eq-eqb, or-parts}
+use Rattle.std.proofs.shelf.Tests.{both-ways, eqb-true, eqb-false, eq-eqb, ne-eqb, or-parts}
 use Rattle.terms.specs.Terms.{Label, Sort, Tree, Term, Terms, var, node, nil, cons, apply, occurs, size, only}
 use Rattle.terms.specs.Unifiers.{Subst, compose, Absorbs}
 
@@ -29,6 +29,9 @@ apply-same σ τ e (cons t ts) = ap₂ cons (apply-same σ τ e t) (apply-same �
 -- What a substitution absorbs, it absorbs in every tree.
 pub absorbs-tree : {s : Sort} (θ σ : Subst) → Absorbs θ σ → (t : Tree s) → apply θ (apply σ t) ≡ apply θ t
 absorbs-tree θ σ a t = apply-apply σ θ t ∙ apply-same (compose σ θ) θ a t
+
+pub ne-occurs : (x y : ℕ) → eqb x y ≡ false → occurs x (var y) ≡ false
+ne-occurs x y e = ne-eqb y x (λ p. eqb-false x y e (sym p))
 
 pub only-self : (x : ℕ) (t : Term) → only x t x ≡ t
 only-self x t = rw (eq-eqb x x refl)

@@ -7,11 +7,12 @@ use mathlib.Core.Logic.{_↔_}
 use Prim.Native.Nat.{ℕ}
 use lib.Dec.{eqb, ltb}
 use Rattle.std.proofs.shelf.Tests.{true≢false, eqb-true}
-use Rattle.terms.specs.Terms.{Label, Term, Terms, var, node, nil, cons, apply, occurs, only, sameLabel}
-use Rattle.terms.specs.Unifiers.{Subst, compose, Absorbs, Idempotent}
+use Rattle.terms.specs.Terms.{Sort, Tree, Term, Terms, var, node, nil, cons, apply, occurs, only, sameLabel}
+use Rattle.terms.specs.Unifiers.{Subst, compose, Absorbs}
 use Rattle.terms.specs.Robinson.{Goal, both, each, applyGoals, Next, stop, go, bind, meet, meetRow, step}
 use Rattle.terms.proofs.TermLaws.{absorbs, only-self, no-loop}
 use Rattle.terms.proofs.SameLaws.{sameLabel-true, sameLabel-false}
+use Rattle.terms.proofs.SettledLaws.{Settled, settled-left, settled-right}
 
 -- θ makes the two sides of a goal equal.
 abbrev pub Equal : Subst → Goal → Type 0
@@ -31,75 +32,40 @@ Exact σ gs (stop none) = (θ : Subst) → Fits θ σ gs → ⊥
 Exact σ gs (stop (some τ)) = (θ : Subst) → Fits θ σ gs ↔ Absorbs θ τ
 Exact σ gs (go τ hs) = (θ : Subst) → Fits θ σ gs ↔ Fits θ τ hs
 
-node-label : (l m : Label) (ts us : Terms) → node l ts ≡ node m us → l ≡ m
-node-label l m ts us e = cc
+-- Binding x to t, for substitutions that make the same of x and t.
+module _ (θ : Subst) (x : ℕ) (t : Term) (e : θ x ≡ apply θ t) where
+  equal-only : {s : Sort} (a b : Tree s) → (apply θ a ≡ apply θ b) ↔ (apply θ (apply (only x t) a) ≡ apply θ (apply (only x t) b))
+  equal-only a b = (λ p. absorbs x t θ e a ∙ p ∙ sym (absorbs x t θ e b), λ p. sym (absorbs x t θ e a) ∙ p ∙ absorbs x t θ e b)
 
-node-args : (l m : Label) (ts us : Terms) → node l ts ≡ node m us → ts ≡ us
-node-args l m ts us e = cc
+  solves-only : (gs : List Goal) → Solves θ gs ↔ Solves θ (applyGoals (only x t) gs)
+  solves-only [] = (λ s. s, λ s. s)
+  solves-only (both a b ∷ gs) = let h = equal-only a b in let r = solves-only gs in (λ s. (h .0 (s .0), r .0 (s .1)), λ s. (h .1 (s .0), r .1 (s .1)))
+  solves-only (each a b ∷ gs) = let h = equal-only a b in let r = solves-only gs in (λ s. (h .0 (s .0), r .0 (s .1)), λ s. (h .1 (s .0), r .1 (s .1)))
 
-cons-head : (t u : Term) (ts us : Terms) → cons t ts ≡ cons u us → t ≡ u
-cons-head t u ts us e = cc
+  absorbs-bind : (σ : Subst) → Absorbs θ σ ↔ Absorbs θ (compose σ (only x t))
+  absorbs-bind σ = (λ a n. absorbs x t θ e (σ n) ∙ a n, λ a n. sym (absorbs x t θ e (σ n)) ∙ a n)
 
-cons-tail : (t u : Term) (ts us : Terms) → cons t ts ≡ cons u us → ts ≡ us
-cons-tail t u ts us e = cc
-
-nil-cons : (u : Term) (us : Terms) → nil ≡ cons u us → ⊥
-nil-cons u us e = true≢false cc
-
--- binding x to t is exact where θ x ≡ θ t is what the goal asks
-absorbs-bind : (θ σ : Subst) (x : ℕ) (t : Term) → θ x ≡ apply θ t → Absorbs θ σ → Absorbs θ (compose σ (only x t))
-absorbs-bind θ σ x t e a n = absorbs x t θ e (σ n) ∙ a n
-
-absorbs-goals : (θ : Subst) (x : ℕ) (t : Term) → θ x ≡ apply θ t → (gs : List Goal) → Solves θ gs ↔ Solves θ (applyGoals (only x t) gs)
-absorbs-goals θ x t e [] = (λ s. s, λ s. s)
-absorbs-goals θ x t e (both a b ∷ gs) = let r = absorbs-goals θ x t e gs in
-    (λ s. (absorbs x t θ e a ∙ s .0 ∙ sym (absorbs x t θ e b), r .0 (s .1)), λ s. (sym (absorbs x t θ e a) ∙ s .0 ∙ absorbs x t θ e b, r .1 (s .1)))
-absorbs-goals θ x t e (each a b ∷ gs) = let r = absorbs-goals θ x t e gs in
-    (λ s. (absorbs x t θ e a ∙ s .0 ∙ sym (absorbs x t θ e b), r .0 (s .1)), λ s. (sym (absorbs x t θ e a) ∙ s .0 ∙ absorbs x t θ e b, r .1 (s .1)))
-
--- the values σ and the goals speak only of variables without a value
-abbrev pub Settled : Subst → List Goal → Type 0
-Settled σ gs = Idempotent σ × (applyGoals σ gs ≡ gs)
-
--- who absorbs the bound values gives x what it gives t
+-- A substitution that extends the bound values makes the same of x and t.
 bind-back : (θ σ : Subst) (x : ℕ) (t : Term) → σ x ≡ var x → Absorbs θ (compose σ (only x t)) → θ x ≡ apply θ t
-bind-back θ σ x t e a = sym (a x) ∙ ap (λ (u : Term). apply θ (apply (only x t) u)) e ∙ ap (apply θ) (only-self x t)
+bind-back θ σ x t free a = sym (a x) ∙ ap (λ (u : Term). apply θ (apply (only x t) u)) free ∙ ap (apply θ) (only-self x t)
 
-absorbs-unbind : (θ σ : Subst) (x : ℕ) (t : Term) → σ x ≡ var x → Absorbs θ (compose σ (only x t)) → Absorbs θ σ
-absorbs-unbind θ σ x t e a n = sym (absorbs x t θ (bind-back θ σ x t e a) (σ n)) ∙ a n
-
--- the goal `both (var x) t` (either way round) is spent by the binding
-bind-exact : (θ σ : Subst) (x : ℕ) (t : Term) (gs : List Goal) → σ x ≡ var x
-    → (Absorbs θ σ × (θ x ≡ apply θ t) × Solves θ gs) ↔ Fits θ (compose σ (only x t)) (applyGoals (only x t) gs)
-bind-exact θ σ x t gs free = (
-  λ s. (absorbs-bind θ σ x t (s .1) (s .0), absorbs-goals θ x t (s .1) gs .0 (s .2)),
-  λ s. let e = bind-back θ σ x t free (s .0) in (absorbs-unbind θ σ x t free (s .0), e, absorbs-goals θ x t e gs .1 (s .1)),
+-- Binding x to t is exact for the goal that makes x and t equal, either way round.
+bind-exact : (σ : Subst) (x : ℕ) (t : Term) (gs : List Goal) → σ x ≡ var x → Exact σ (both (var x) t ∷ gs) (bind x t σ gs)
+bind-exact σ x t gs free = λ θ. (
+  λ f. (absorbs-bind θ x t (f .1 .0) σ .0 (f .0), solves-only θ x t (f .1 .0) gs .0 (f .1 .1)),
+  λ f. let e = bind-back θ σ x t free (f .0) in (absorbs-bind θ x t e σ .1 (f .0), (e, solves-only θ x t e gs .1 (f .1))),
 )
 
--- a settled state's first variable is free
-pub goals-head : (g h : Goal) (gs hs : List Goal) → g ∷ gs ≡ h ∷ hs → g ≡ h
-goals-head g h gs hs e = cc
-
-both-left : (t u a b : Term) → both t u ≡ both a b → t ≡ a
-both-left t u a b e = cc
-
-both-right : (t u a b : Term) → both t u ≡ both a b → u ≡ b
-both-right t u a b e = cc
-
-pub settled-left : (σ : Subst) (t u : Term) (gs : List Goal) → Settled σ (both t u ∷ gs) → apply σ t ≡ t
-settled-left σ t u gs s = both-left _ _ _ _ (goals-head _ _ _ _ (s .1))
-
-pub settled-right : (σ : Subst) (t u : Term) (gs : List Goal) → Settled σ (both t u ∷ gs) → apply σ u ≡ u
-settled-right σ t u gs s = both-right _ _ _ _ (goals-head _ _ _ _ (s .1))
+bind-turned : (σ : Subst) (x : ℕ) (t : Term) (gs : List Goal) → σ x ≡ var x → Exact σ (both t (var x) ∷ gs) (bind x t σ gs)
+bind-turned σ x t gs free = λ θ. let b = bind-exact σ x t gs free θ in
+    (λ f. b .0 (f .0, (sym (f .1 .0), f .1 .1)), λ f. let r = b .1 f in (r .0, (sym (r .1 .0), r .1 .1)))
 
 meet-exact : (t u : Term) (σ : Subst) (gs : List Goal) → Settled σ (both t u ∷ gs) → Exact σ (both t u ∷ gs) (meet t u σ gs)
 meet-exact (var x) (var y) σ gs s = test (eqb x y) refl
   where
     order : (b : Bool) → Exact σ (both (var x) (var y) ∷ gs) (cond b (bind y (var x) σ gs) (bind x (var y) σ gs))
-    order true = λ θ. let b = bind-exact θ σ y (var x) gs (settled-right σ (var x) (var y) gs s) in
-        (λ f. b .0 (f .0, sym (f .1 .0), f .1 .1), λ f. let r = b .1 f in (r .0, (sym (r .1), r .2)))
-    order false = λ θ. let b = bind-exact θ σ x (var y) gs (settled-left σ (var x) (var y) gs s) in
-        (λ f. b .0 (f .0, f .1 .0, f .1 .1), λ f. let r = b .1 f in (r .0, (r .1, r .2)))
+    order true = bind-turned σ y (var x) gs (settled-right σ (var x) (var y) gs s)
+    order false = bind-exact σ x (var y) gs (settled-left σ (var x) (var y) gs s)
 
     test : (b : Bool) → eqb x y ≡ b → Exact σ (both (var x) (var y) ∷ gs) (cond b (go σ gs) (cond (ltb x y) (bind y (var x) σ gs) (bind x (var y) σ gs)))
     test true e = λ θ. (λ f. (f .0, f .1 .1), λ f. (f .0, (ap θ (eqb-true x y e), f .1)))
@@ -108,26 +74,23 @@ meet-exact (var x) (node l us) σ gs s = test (occurs x us) refl
   where
     test : (b : Bool) → occurs x us ≡ b → Exact σ (both (var x) (node l us) ∷ gs) (cond b (stop none) (bind x (node l us) σ gs))
     test true e = λ θ f. no-loop x θ l us e (f .1 .0)
-    test false e = λ θ. let b = bind-exact θ σ x (node l us) gs (settled-left σ (var x) (node l us) gs s) in
-        (λ f. b .0 (f .0, f .1 .0, f .1 .1), λ f. let r = b .1 f in (r .0, (r .1, r .2)))
+    test false e = bind-exact σ x (node l us) gs (settled-left σ (var x) (node l us) gs s)
 meet-exact (node l ts) (var y) σ gs s = test (occurs y ts) refl
   where
     test : (b : Bool) → occurs y ts ≡ b → Exact σ (both (node l ts) (var y) ∷ gs) (cond b (stop none) (bind y (node l ts) σ gs))
     test true e = λ θ f. no-loop y θ l ts e (sym (f .1 .0))
-    test false e = λ θ. let b = bind-exact θ σ y (node l ts) gs (settled-right σ (node l ts) (var y) gs s) in
-        (λ f. b .0 (f .0, sym (f .1 .0), f .1 .1), λ f. let r = b .1 f in (r .0, (sym (r .1), r .2)))
+    test false e = bind-turned σ y (node l ts) gs (settled-right σ (node l ts) (var y) gs s)
 meet-exact (node l ts) (node m us) σ gs s = test (sameLabel l m) refl
   where
     test : (b : Bool) → sameLabel l m ≡ b → Exact σ (both (node l ts) (node m us) ∷ gs) (cond b (go σ (each ts us ∷ gs)) (stop none))
-    test true e = λ θ. (λ f. (f .0, (node-args l m (apply θ ts) (apply θ us) (f .1 .0), f .1 .1)), λ f. (f .0, (ap₂ node (sameLabel-true l m e) (f .1 .0), f .1 .1)))
-    test false e = λ θ f. sameLabel-false l m e (node-label l m (apply θ ts) (apply θ us) (f .1 .0))
+    test true e = λ θ. (λ f. (f .0, (cc (f .1 .0), f .1 .1)), λ f. (f .0, (ap₂ node (sameLabel-true l m e) (f .1 .0), f .1 .1)))
+    test false e = λ θ f. sameLabel-false l m e (cc (f .1 .0))
 
 row-exact : (ts us : Terms) (σ : Subst) (gs : List Goal) → Exact σ (each ts us ∷ gs) (meetRow ts us σ gs)
 row-exact nil nil σ gs = λ θ. (λ f. (f .0, f .1 .1), λ f. (f .0, (refl, f .1)))
-row-exact nil (cons u us) σ gs = λ θ f. nil-cons _ _ (f .1 .0)
-row-exact (cons t ts) nil σ gs = λ θ f. nil-cons _ _ (sym (f .1 .0))
-row-exact (cons t ts) (cons u us) σ gs = λ θ.
-    (λ f. (f .0, (cons-head _ _ _ _ (f .1 .0), (cons-tail _ _ _ _ (f .1 .0), f .1 .1))), λ f. (f .0, (ap₂ cons (f .1 .0) (f .1 .1 .0), f .1 .1 .1)))
+row-exact nil (cons u us) σ gs = λ θ f. true≢false (cc (f .1 .0))
+row-exact (cons t ts) nil σ gs = λ θ f. true≢false (cc (f .1 .0))
+row-exact (cons t ts) (cons u us) σ gs = λ θ. (λ f. (f .0, (cc (f .1 .0), (cc (f .1 .0), f .1 .1))), λ f. (f .0, (ap₂ cons (f .1 .0) (f .1 .1 .0), f .1 .1 .1)))
 
 pub step-exact : (σ : Subst) (gs : List Goal) → Settled σ gs → Exact σ gs (step σ gs)
 step-exact σ [] s = λ θ. (λ f. f .0, λ f. (f, tt))

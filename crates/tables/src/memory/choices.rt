@@ -79,12 +79,9 @@ impl Memory {
         ensures { λ _. ⌜ tablesOf (now (self .exit)) ≡ setChoice (tablesOf (now (self .entry))) k (withTops (choiceAt (tablesOf (now (self .entry))) k) «heap_top» «trail_top») ⌝ }
     {
         let place = self.choices.len() - 1 - k;
-        let old = self.choices.at(place);
-        let point = ChoicePoint {
-            saved: old.saved,
-            heap_top: heap_top as u16,
-            trail_top: trail_top as u16,
-        };
+        let mut point = self.choices.at(place);
+        point.heap_top = heap_top as u16;
+        point.trail_top = trail_top as u16;
         self.choices.set(place, point);
     }
 
@@ -94,6 +91,7 @@ impl Memory {
         ensures { λ _. ⌜ tablesOf (now (self .exit)) ≡ withRegisters (tablesOf (now (self .entry))) (choiceAt (tablesOf (now (self .entry))) 0 .saved) ⌝ }
     {
         let newest = self.choices.at(self.choices.len() - 1);
-        self.registers = newest.saved;
+        let saved = newest.saved;
+        self.registers = saved;
     }
 }

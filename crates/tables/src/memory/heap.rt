@@ -5,9 +5,9 @@ ghost use lib.ListN.{length};
 ghost use Rattle.cells.specs.Cells.{inRange};
 ghost use Rattle.tables.specs.Tables.{setUp, used, cellAt, setCell, pushCell, cutHeap};
 ghost use Rattle.tables.specs.Views.{tablesOf};
+use super::super::stack::Stack;
 use super::ChoicePoint;
 use super::Memory;
-use super::super::stack::Stack;
 use cells::Cell;
 
 impl Memory {

@@ -6,4 +6,4 @@ use Rattle.marks.proofs.bits.BitKeeper.mark.Needs as need
 
 pub returns-then-n-lt-CELLS : need.returns-then-n-lt-CELLS
 returns-then-n-lt-CELLS c =
-    rw (one-shl (c .args .n % 64) 64 (search needs)) (bit-mark (c .args .self .now .words) (c .args .n) (search needs) (search needs))
+    bit-mark (c .args .self .now .words) (c .args .n) _ (search needs) (search needs) (one-shl (c .args .n % 64) 64 (search needs))
