@@ -1,0 +1,4 @@
+pub mod Sound
+pub mod Pigeonhole
+pub mod Depth
+pub mod SpellLaws

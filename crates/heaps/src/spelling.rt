@@ -1,0 +1,15 @@
+//! The laws of spelled terms: the spelling is determined, what binding does to it, and what moving cells does to it.
+
+ghost use mathlib.Core.Path.{_≡_};
+ghost use mathlib.Core.Bool.{true};
+ghost use Rattle.heaps.specs.SpellingLaws.{Spell-layer, Spell-only, Spell-more};
+
+/// On tables that keep the rules every word spells one term.
+pub fn spelling_stands() -> bool
+    ensures layered { λ _. ⌜ Spell-layer ⌝ }
+    ensures only { λ _. ⌜ Spell-only ⌝ }
+    ensures more { λ _. ⌜ Spell-more ⌝ }
+    ensures answer { λ r. ⌜ r ≡ true ⌝ }
+{
+    true // The laws of spelling.
+}
