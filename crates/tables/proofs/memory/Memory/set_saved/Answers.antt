@@ -10,5 +10,5 @@ returns c =
     let written = cells-set (c .word .result) (c .args .cell) (c .pre .1 .1) (c .word .ensures) (point .saved) _ (c .args .r) refl in
     c .set-point .ensures
     ∙ ap (setChoice (tablesOf (c .args .self .now)) (c .args .k))
-        (ap (λ cells. record { saved = cells; heapTop = point .«heap_top»; trailTop = point .«trail_top» }) written
-         ∙ ap (λ (p : Choice). withSaved p (c .args .r) (c .args .cell)) (c .point-point .ensures))
+    (ap (λ cells. record { saved = cells; heapTop = point .«heap_top»; trailTop = point .«trail_top» }) written
+    ∙ ap (λ (p : Choice). withSaved p (c .args .r) (c .args .cell)) (c .point-point .ensures))
