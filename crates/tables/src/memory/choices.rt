@@ -5,7 +5,7 @@ ghost use lib.ListN.{length, getD};
 ghost use Rattle.cells.specs.declared.cell.Cell.the-variants.{Atom};
 ghost use Rattle.cells.specs.Cells.{inRange};
 ghost use Rattle.tables.specs.Tables.{pushChoice, keepChoices, choiceAt, setChoice, withSaved, withTops, withRegisters};
-ghost use Rattle.tables.specs.Views.{tablesOf};
+ghost use Rattle.tables.specs.Views.{tablesOf, choiceOf};
 use super::ChoicePoint;
 use super::Memory;
 use cells::Cell;
@@ -39,11 +39,27 @@ impl Memory {
         self.choices.truncate(k);
     }
 
+    // The k-th choice point as it stands in memory.
+    fn point(&self, k: usize) -> ChoicePoint
+        requires { ⌜ k < length (tablesOf (now self) .choices) ⌝ }
+        ensures { λ p. ⌜ choiceOf p ≡ choiceAt (tablesOf (now (self .entry))) k ⌝ }
+    {
+        self.choices.at(self.choices.len() - 1 - k)
+    }
+
+    fn set_point(&mut self, k: usize, point: ChoicePoint)
+        requires { ⌜ k < length (tablesOf (now self) .choices) ⌝ }
+        ensures { λ _. ⌜ tablesOf (now (self .exit)) ≡ setChoice (tablesOf (now (self .entry))) k (choiceOf point) ⌝ }
+    {
+        let place = self.choices.len() - 1 - k;
+        self.choices.set(place, point);
+    }
+
     pub fn heap_top(&self, k: usize) -> usize
         requires { ⌜ k < length (tablesOf (now self) .choices) ⌝ }
         ensures { λ n. ⌜ n ≡ choiceAt (tablesOf (now (self .entry))) k .heapTop ⌝ }
     {
-        let point = self.choices.at(self.choices.len() - 1 - k);
+        let point = self.point(k);
         point.heap_top as usize
     }
 
@@ -51,7 +67,7 @@ impl Memory {
         requires { ⌜ k < length (tablesOf (now self) .choices) ⌝ }
         ensures { λ n. ⌜ n ≡ choiceAt (tablesOf (now (self .entry))) k .trailTop ⌝ }
     {
-        let point = self.choices.at(self.choices.len() - 1 - k);
+        let point = self.point(k);
         point.trail_top as usize
     }
 
@@ -60,7 +76,7 @@ impl Memory {
         requires { ⌜ k < length (tablesOf (now self) .choices) ⌝ ∗ ⌜ r < 8 ⌝ }
         ensures { λ c. ⌜ c ≡ getD (choiceAt (tablesOf (now (self .entry))) k .saved) r (Atom 0) ⌝ }
     {
-        let point = self.choices.at(self.choices.len() - 1 - k);
+        let point = self.point(k);
         Cell::of(point.saved[r])
     }
 
@@ -68,21 +84,19 @@ impl Memory {
         requires { ⌜ k < length (tablesOf (now self) .choices) ⌝ ∗ ⌜ r < 8 ⌝ ∗ ⌜ inRange cell ≡ true ⌝ }
         ensures { λ _. ⌜ tablesOf (now (self .exit)) ≡ setChoice (tablesOf (now (self .entry))) k (withSaved (choiceAt (tablesOf (now (self .entry))) k) r cell) ⌝ }
     {
-        let place = self.choices.len() - 1 - k;
-        let mut point = self.choices.at(place);
+        let mut point = self.point(k);
         point.saved[r] = cell.word();
-        self.choices.set(place, point);
+        self.set_point(k, point);
     }
 
     pub fn set_tops(&mut self, k: usize, heap_top: usize, trail_top: usize)
         requires { ⌜ k < length (tablesOf (now self) .choices) ⌝ ∗ ⌜ «heap_top» ≤ 4096 ⌝ ∗ ⌜ «trail_top» ≤ 4096 ⌝ }
         ensures { λ _. ⌜ tablesOf (now (self .exit)) ≡ setChoice (tablesOf (now (self .entry))) k (withTops (choiceAt (tablesOf (now (self .entry))) k) «heap_top» «trail_top») ⌝ }
     {
-        let place = self.choices.len() - 1 - k;
-        let mut point = self.choices.at(place);
+        let mut point = self.point(k);
         point.heap_top = heap_top as u16;
         point.trail_top = trail_top as u16;
-        self.choices.set(place, point);
+        self.set_point(k, point);
     }
 
     // Takes the registers from the newest choice point.
@@ -90,7 +104,7 @@ impl Memory {
         requires { ⌜ 0 < length (tablesOf (now self) .choices) ⌝ }
         ensures { λ _. ⌜ tablesOf (now (self .exit)) ≡ withRegisters (tablesOf (now (self .entry))) (choiceAt (tablesOf (now (self .entry))) 0 .saved) ⌝ }
     {
-        let newest = self.choices.at(self.choices.len() - 1);
+        let newest = self.point(0);
         let saved = newest.saved;
         self.registers = saved;
     }

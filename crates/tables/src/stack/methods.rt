@@ -16,17 +16,18 @@ impl<T: Copy, const N: usize> Stack<T, N> {
         }
     }
 
+    // How many places are in use.
     pub fn len(&self) -> usize
         ensures { λ n. ⌜ n ≡ length (listed (now (self .entry))) ⌝ }
     {
-        self.len
+        self.len // the array has further, spare places
     }
 
-    pub fn at(&self, i: usize) -> T
-        requires { ⌜ i < length (listed (now self)) ⌝ }
-        ensures { λ x. ⌜ ((d : T) → x ≡ getD (listed (now (self .entry))) i d) ⌝ }
+    pub fn at(&self, place: usize) -> T
+        requires { ⌜ place < length (listed (now self)) ⌝ }
+        ensures { λ x. ⌜ ((d : T) → x ≡ getD (listed (now (self .entry))) place d) ⌝ }
     {
-        self.items[i]
+        self.items[place]
     }
 
     pub fn set(&mut self, i: usize, x: T)

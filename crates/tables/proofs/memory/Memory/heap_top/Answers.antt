@@ -1,23 +1,6 @@
-use mathlib.Core.Path.{_≡_, sym, ap, ap₂, _∙_}
-use mathlib.Core.List.{map, reverse}
-use Prim.Native.Nat.{_<_, _≤_, _-_}
-use native.Mathlib.Omega.{arith}
-use lib.ListN.{length, getD}
-use borrow.Author.Needs.{needs}
-use Rattle.std.proofs.shelf.Lists.{length-map, getD-map, getD-past}
-use Rattle.cells.specs.declared.cell.Cell.the-variants.{Reference, Atom}
-use Rattle.cells.specs.Cells.{cellOf}
-use Rattle.tables.specs.Stacks.{listed}
-use Rattle.tables.specs.Tables.{Choice, withHeap, withRegisters, withChoices, withSaved, withTops, noChoice}
-use Rattle.tables.specs.Views.{tablesOf, choiceOf}
-use Rattle.tables.proofs.Views.{cells-set, cells-push, length-turned, turned-push, turned-at, turned-set}
+use mathlib.Core.Path.{ap}
+use Rattle.tables.specs.Tables.{Choice}
 use Rattle.tables.proofs.memory.Memory.heap_top.Needs as need
 
-pub sub-len-2 : need.sub-len-2
-sub-len-2 c = omega (arith, length-turned choiceOf (listed (c .args .self .now .choices)), c .pre)
-
 pub returns : need.returns
-returns c =
-    let points = listed (c .args .self .now .choices) in
-    let inside : c .args .k < length points = omega (arith, length-turned choiceOf points, c .pre) in
-    sym (ap (λ (p : Choice). p .heapTop) (turned-at choiceOf points (c .args .k) noChoice (c .at-point .result) inside (λ e. c .at-point .ensures e ∙ ap (λ n. getD points (n - 1 - c .args .k) e) (c .len .ensures))))
+returns c = ap (λ (p : Choice). p .heapTop) (c .point-point .ensures)
