@@ -6,3 +6,4 @@ pub mod Levels
 pub mod Binding
 pub mod Rules
 pub mod SpellingLaws
+pub mod Ends

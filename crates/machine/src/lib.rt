@@ -1,0 +1,3 @@
+pub fn stands() -> bool {
+    true
+}
