@@ -2,7 +2,7 @@
 use mathlib.Core.Path.{_≡_, refl, ap, _∙_, sym, subst}
 use mathlib.Core.Bool.{true}
 use mathlib.Core.List.{List, [], _∷_}
-use Prim.Native.Nat.{ℕ, zero, suc, min, _<_, _≤_}
+use Prim.Native.Nat.{ℕ, suc, min, _<_, _≤_}
 use native.Mathlib.Omega.{arith}
 use lib.Dec.{ltb}
 use lib.ListN.{length, take, drop}
@@ -14,11 +14,10 @@ use Rattle.cells.specs.Cells.{inRange}
 use Rattle.tables.specs.Tables.{Choice, Tables, used}
 use Rattle.heaps.specs.Lists.{Each}
 use Rattle.heaps.specs.Leads.{heapOf}
-use Rattle.heaps.specs.Levels.{seenFrom, backTo, lastOf, last, undo}
+use Rattle.heaps.specs.Levels.{seenFrom, backTo, lastOf, last}
 use Rattle.heaps.specs.Rules.{EntryNames, Rules, Fits}
 use Rattle.heaps.proofs.EachLaws.{each-map, each-take, each-drop}
 use Rattle.heaps.proofs.UnbindLaws.{length-unbindAll, each-unbindAll}
-use Rattle.heaps.proofs.BackRules.{rules-last}
 
 abbrev Ranged : Cell → Type 0
 Ranged c = inRange c ≡ true
@@ -28,19 +27,20 @@ SavedFits d = (length (d .saved) ≡ 8) × Each Ranged (d .saved)
 
 module _ (t : Tables) (r : Rules t) (f : Fits t) where
   fits-back : (c : Choice) (ds : List Choice) → SavedFits c → length ds ≤ 64 → Each (λ d. length (d .saved) ≡ 8) ds → Each (λ d. Each Ranged (d .saved)) ds → Fits (backTo c ds t)
-  fits-back c ds p q lengths ranges = record
-      { cells = let a = length-take (c .heapTop) (seenFrom c (t .heap) (t .trail)) in let b = length-unbindAll (t .heap) gone in let n = f .cells in omega arith
-      ; entries = let a = length-take (c .trailTop) (t .trail) in let n = f .entries in omega arith
-      ; points = q
-      ; registers = p .0
-      ; saved = lengths
-      ; heap-range = each-take Ranged (c .heapTop) (seenFrom c (t .heap) (t .trail)) (each-unbindAll Ranged gone in-range (t .heap) (f .heap-range))
-      ; register-range = p .1
-      ; saved-range = ranges
-      }
+  fits-back c ds p q lengths ranges = record {
+    cells = let a = length-take (c .heapTop) (seenFrom c (t .heap) (t .trail)) in let b = length-unbindAll (t .heap) gone in let n = f .cells in omega arith;
+    entries = let a = length-take (c .trailTop) (t .trail) in let n = f .entries in omega arith;
+    points = q;
+    registers = p .0;
+    saved = lengths;
+    heap-range = each-take Ranged (c .heapTop) (seenFrom c (t .heap) (t .trail)) (each-unbindAll Ranged gone in-range (t .heap) (f .heap-range));
+    register-range = p .1;
+    saved-range = ranges;
+  }
     where
       gone : List ℕ
       gone = drop (c .trailTop) (t .trail)
+
       in-range : Each (λ e. Ranged (Reference e)) gone
       in-range = each-map (EntryNames (heapOf (t .heap)) (used t)) (λ e. Ranged (Reference e)) (λ e p. let a = p .0 in let n = f .cells in lt-ltb e 4096 (omega arith))
           gone (each-drop (EntryNames (heapOf (t .heap)) (used t)) (c .trailTop) (t .trail) (r .trail .1))
@@ -57,7 +57,3 @@ module _ (t : Tables) (r : Rules t) (f : Fits t) where
 
   pub fits-last : Fits (last t)
   fits-last = last-of (t .choices) refl
-
-pub fits-undo : (t : Tables) (k : ℕ) → Rules t → Fits t → Fits (undo t k)
-fits-undo t zero r f = f
-fits-undo t (suc k) r f = fits-undo (last t) k (rules-last t r) (fits-last t r f)

@@ -3,7 +3,7 @@ use mathlib.Core.Path.{_≡_, refl, ap, _∙_, sym, subst}
 use mathlib.Core.Bool.{Bool, true, false, cond}
 use mathlib.Core.List.{List, [], _∷_}
 use mathlib.Core.Logic.{_⊎_, inl, inr}
-use Prim.Native.Nat.{ℕ, zero, suc, _+_, _<_, _≤_}
+use Prim.Native.Nat.{ℕ, _+_, _<_, _≤_}
 use native.Mathlib.Omega.{arith}
 use lib.ListN.{length, take, drop}
 use Rattle.std.proofs.shelf.Lists.{take-take}
@@ -13,7 +13,7 @@ use Rattle.cells.specs.declared.cell.Cell.the-variants.{Reference, Pointer, Fun
 use Rattle.tables.specs.Tables.{Choice, Tables, used}
 use Rattle.heaps.specs.Lists.{Each, isIn}
 use Rattle.heaps.specs.Leads.{Heap, heapOf, LeadsBy, refersTo, unbound, isFunctor, Leads, Way, step, more}
-use Rattle.heaps.specs.Levels.{seenFrom, backTo, lastOf, last, undo}
+use Rattle.heaps.specs.Levels.{seenFrom, backTo, lastOf, last}
 use Rattle.heaps.specs.Rules.{ReferencesLead, PointersLead, ArgumentsStand, WordKeeps, EntryNames, TopsFall, Closed, Rules}
 use Rattle.heaps.proofs.EachLaws.{each-map, each-two, each-take, each-in, isIn-from-drop, different-take, taken-apart}
 use Rattle.heaps.proofs.UnbindLaws.{undone, heapOf-unbindAll, heapOf-take, heapOf-past}
@@ -89,9 +89,11 @@ module _ (t : Tables) (c : Choice) (ds : List Choice) (r : Rules t)
     where
       bound : new i ≡ Reference i → ⊥
       bound p = both-ways (unbound new i) (l .1) (ap (refersTo i) p ∙ eq-eqb i i refl)
+
       by : (new i ≡ Reference i) ⊎ (new i ≡ old i) → Leads old i j
       by (inl p) = absurd (bound p)
       by (inr p) = (subst (λ (w : Cell). LeadsBy i w j) p (l .0), subst (λ (w : Cell). refersTo i w ≡ false) p (l .1))
+
       test : (i < c .heapTop) ⊎ (c .heapTop ≤ i) → Leads old i j
       test (inl lt) = by (either i lt)
       test (inr ge) = absurd (bound (heapOf-past (s .heap) i (let u = used-is in omega arith)))
@@ -112,11 +114,11 @@ module _ (t : Tables) (c : Choice) (ds : List Choice) (r : Rules t)
       (word-keeps (d .heapTop) (u .0)) (d .saved) p (b .saved)
 
   level-closed : (d : Choice) → Under c d → Closed (t .heap) (t .trail) d → Closed (s .heap) (s .trail) d
-  level-closed d u b = record
-      { below = λ i j lt l. b .below i j lt (subst (λ (w : Cell). LeadsBy i w j) (seen-older t c d ds (u .0) (u .1) i lt) l)
-      ; saved = b .saved
-      ; older = subst (Each (λ e. e < d .heapTop)) (sym (take-take (d .trailTop) (c .trailTop) (t .trail) (u .1))) (b .older)
-      }
+  level-closed d u b = record {
+    below = λ i j lt l. b .below i j lt (subst (λ (w : Cell). LeadsBy i w j) (seen-older t c d ds (u .0) (u .1) i lt) l);
+    saved = b .saved;
+    older = subst (Each (λ e. e < d .heapTop)) (sym (take-take (d .trailTop) (c .trailTop) (t .trail) (u .1))) (b .older);
+  }
 
   abbrev Kept : ℕ → Type 0
   Kept e = (e < c .heapTop) × EntryNames old (used t) e
@@ -124,7 +126,7 @@ module _ (t : Tables) (c : Choice) (ds : List Choice) (r : Rules t)
   entries : Each (EntryNames new (used s)) (s .trail)
   entries = each-two (λ e. isIn e gone ≡ false) Kept (EntryNames new (used s))
       (λ e p q. let u = used-is in let low = q .0 in
-        (omega arith, ap (refersTo e) (cell-is e low ∙ ap (λ (b : Bool). cond b (Reference e) (old e)) p) ∙ q .1 .1, kind-is e low ∙ q .1 .2))
+      (omega arith, ap (refersTo e) (cell-is e low ∙ ap (λ (b : Bool). cond b (Reference e) (old e)) p) ∙ q .1 .1, kind-is e low ∙ q .1 .2))
       (s .trail) (taken-apart (c .trailTop) (t .trail) (r .trail .0))
       (each-two (λ e. e < c .heapTop) (EntryNames old (used t)) Kept (λ e p q. (p, q)) (s .trail) (closed .older) (each-take (EntryNames old (used t)) (c .trailTop) (t .trail) (r .trail .1)))
 
@@ -132,19 +134,20 @@ module _ (t : Tables) (c : Choice) (ds : List Choice) (r : Rules t)
   under = tops-under c (c .heapTop) (c .trailTop) ds (omega arith) (omega arith) fall
 
   pub rules-back : Rules s
-  rules-back = record
-      { references = references
-      ; pointers = pointers
-      ; arguments = arguments
-      ; registers =
-          ( saved-keep c (omega arith, omega arith) keep closed
-          , each-two (Under c) (λ d. SavedKeep t d × Closed (t .heap) (t .trail) d) (SavedKeep s) (λ d u p. saved-keep d u (p .0) (p .1)) ds under
-              (each-two (SavedKeep t) (Closed (t .heap) (t .trail)) (λ d. SavedKeep t d × Closed (t .heap) (t .trail) d) (λ d p q. (p, q)) ds keeps levels) )
-      ; trail = (different-take (c .trailTop) (t .trail) (r .trail .0), entries)
-      ; tops = falls-back t c ds ds h k fall
-      ; acyclic = λ i w. r .acyclic i (way-was i i w)
-      ; levels = each-two (Under c) (Closed (t .heap) (t .trail)) (Closed (s .heap) (s .trail)) level-closed ds under levels
-      }
+  rules-back = record {
+    references = references;
+    pointers = pointers;
+    arguments = arguments;
+    registers = (
+      saved-keep c (omega arith, omega arith) keep closed,
+      each-two (Under c) (λ d. SavedKeep t d × Closed (t .heap) (t .trail) d) (SavedKeep s) (λ d u p. saved-keep d u (p .0) (p .1)) ds under
+          (each-two (SavedKeep t) (Closed (t .heap) (t .trail)) (λ d. SavedKeep t d × Closed (t .heap) (t .trail) d) (λ d p q. (p, q)) ds keeps levels),
+    );
+    trail = (different-take (c .trailTop) (t .trail) (r .trail .0), entries);
+    tops = falls-back t c ds ds h k fall;
+    acyclic = λ i w. r .acyclic i (way-was i i w);
+    levels = each-two (Under c) (Closed (t .heap) (t .trail)) (Closed (s .heap) (s .trail)) level-closed ds under levels;
+  }
 
 module _ (t : Tables) (r : Rules t) where
   abbrev Kept-choices : List Choice → Type 0
@@ -160,7 +163,3 @@ module _ (t : Tables) (r : Rules t) where
 
   pub rules-last : Rules (last t)
   rules-last = last-of (t .choices) refl
-
-pub rules-undo : (t : Tables) (k : ℕ) → Rules t → Rules (undo t k)
-rules-undo t zero r = r
-rules-undo t (suc k) r = rules-undo (last t) k (rules-last t r)

@@ -29,8 +29,10 @@ seen-older t c d cs h k i lt = heapOf-unbindAll (take (c .heapTop) (seenFrom c (
   where
     xs : List ℕ
     xs = drop (d .trailTop) (take (c .trailTop) (t .trail))
+
     ys : List ℕ
     ys = drop (c .trailTop) (t .trail)
+
     both : (a b : Bool) → cond a (Reference i) (cond b (Reference i) (heapOf (t .heap) i)) ≡ cond (a || b) (Reference i) (heapOf (t .heap) i)
     both true b = refl
     both false b = refl
@@ -42,8 +44,8 @@ pub back-back : (t : Tables) (c d : Choice) (cs ds : List Choice) → d .heapTop
     → backTo d ds (backTo c cs t) ≡ backTo d ds t
 back-back t c d cs ds h k u = tables-same
     (take-same (d .heapTop) (seenFrom d (s .heap) (s .trail)) (seenFrom d (t .heap) (t .trail))
-      (let a = length-unbindAll (s .heap) (drop (d .trailTop) (s .trail)) in let b = length-back t c cs u in omega arith)
-      (let a = length-unbindAll (t .heap) (drop (d .trailTop) (t .trail)) in omega arith) (seen-older t c d cs h k))
+    (let a = length-unbindAll (s .heap) (drop (d .trailTop) (s .trail)) in let b = length-back t c cs u in omega arith)
+    (let a = length-unbindAll (t .heap) (drop (d .trailTop) (t .trail)) in omega arith) (seen-older t c d cs h k))
     refl (take-take (d .trailTop) (c .trailTop) (t .trail) k) refl
   where
     s : Tables
@@ -81,6 +83,7 @@ last-drop (suc j) t (c ∷ cs) e o lt = by (newest (drop j cs) (let a = length-d
   where
     p : TopsFall (used t) (length (t .trail)) (c ∷ cs)
     p = subst (TopsFall (used t) (length (t .trail))) e o
+
     by : (d : Choice) × (ds : List Choice) × (drop j cs ≡ d ∷ ds) → last (withChoices (backTo c cs t) (drop j cs)) ≡ undo (backTo c cs t) (suc j) → last (withChoices t (drop j cs)) ≡ undo t (suc (suc j))
     by n ih = let q = subst (TopsFall (c .heapTop) (c .trailTop)) (n .2) (tops-drop j (c .heapTop) (c .trailTop) cs (p .2)) in
         subst (λ (fs : List Choice). lastOf fs (withChoices t fs) ≡ lastOf fs (withChoices (backTo c cs t) fs)) (sym (n .2)) (sym (back-back t c (n .0) cs (n .1) (q .0) (q .1) (p .0)))

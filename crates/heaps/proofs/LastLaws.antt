@@ -44,6 +44,12 @@ refersTo-is n (Functor f a) e = absurd (let z : _≡_ {A = ℕ} 0 1 = cc in omeg
 refersTo-is n (Atom a) e = absurd (let z : _≡_ {A = ℕ} 0 1 = cc in omega arith)
 refersTo-is n (Integer a) e = absurd (let z : _≡_ {A = ℕ} 0 1 = cc in omega arith)
 
+pub last-setRegister : (t : Tables) → 0 < length (t .choices) → (r : ℕ) (w : Cell) → last (setRegister t r w) ≡ last t
+last-setRegister t some r w = by (newest (t .choices) some)
+  where
+    by : (c : Choice) × (cs : List Choice) × (t .choices ≡ c ∷ cs) → last (setRegister t r w) ≡ last t
+    by n = subst (λ (ds : List Choice). lastOf ds (setRegister t r w) ≡ lastOf ds t) (sym (n .2)) refl
+
 module _ (t : Tables) (o : TopsFall (used t) (length (t .trail)) (t .choices)) (some : 0 < length (t .choices)) where
   -- what holds of the newest choice point
   tops-of : (c : Choice) (cs : List Choice) → t .choices ≡ c ∷ cs → (c .heapTop ≤ used t) × (c .trailTop ≤ length (t .trail))
@@ -56,13 +62,7 @@ module _ (t : Tables) (o : TopsFall (used t) (length (t .trail)) (t .choices)) (
       by n = let c = n .0 in let p = tops-of c (n .1) (n .2) in
           subst (λ (ds : List Choice). lastOf ds (withHeap t (t .heap ++ extra)) ≡ lastOf ds t) (sym (n .2))
           (tables-same (take-undone (c .heapTop) (t .heap ++ extra) (t .heap) (drop (c .trailTop) (t .trail)) (drop (c .trailTop) (t .trail)) (let a = length-append (t .heap) extra in omega arith) (p .0)
-              (λ i lt. ap (cond (isIn i (drop (c .trailTop) (t .trail))) (Reference i)) (getD-append-left (t .heap) extra (Reference i) i (omega arith)))) refl refl refl)
-
-  pub last-setRegister : (r : ℕ) (w : Cell) → last (setRegister t r w) ≡ last t
-  last-setRegister r w = by (newest (t .choices) some)
-    where
-      by : (c : Choice) × (cs : List Choice) × (t .choices ≡ c ∷ cs) → last (setRegister t r w) ≡ last t
-      by n = subst (λ (ds : List Choice). lastOf ds (setRegister t r w) ≡ lastOf ds t) (sym (n .2)) refl
+          (λ i lt. ap (cond (isIn i (drop (c .trailTop) (t .trail))) (Reference i)) (getD-append-left (t .heap) extra (Reference i) i (omega arith)))) refl refl refl)
 
   module _ (x : ℕ) (w : Cell) (free : unbound (heapOf (t .heap)) x ≡ true) where
     other : (i : ℕ) → eqb x i ≡ false → heapOf (set (t .heap) x w) i ≡ heapOf (t .heap) i
@@ -82,13 +82,13 @@ module _ (t : Tables) (o : TopsFall (used t) (length (t .trail)) (t .choices)) (
 
     back-bound : (c : Choice) (cs : List Choice) → c .heapTop ≤ used t → c .trailTop ≤ length (t .trail) → (b : Bool) → ltb x (c .heapTop) ≡ b → backTo c cs (bound (c ∷ cs) b) ≡ backTo c cs t
     back-bound c cs h k true p = tables-same (take-undone (c .heapTop) (set (t .heap) x w) (t .heap) (drop (c .trailTop) (t .trail ++ (x ∷ []))) es (let a = length-set (t .heap) x w in omega arith) h
-          (λ i lt. ap (λ (ds : List ℕ). undone (set (t .heap) x w) ds i) (drop-append-le (c .trailTop) (t .trail) (x ∷ []) k) ∙ undone-bound es i))
+        (λ i lt. ap (λ (ds : List ℕ). undone (set (t .heap) x w) ds i) (drop-append-le (c .trailTop) (t .trail) (x ∷ []) k) ∙ undone-bound es i))
         refl (take-append-le (c .trailTop) (t .trail) (x ∷ []) k) refl
       where
         es : List ℕ
         es = drop (c .trailTop) (t .trail)
     back-bound c cs h k false p = tables-same (take-undone (c .heapTop) (set (t .heap) x w) (t .heap) es es (let a = length-set (t .heap) x w in omega arith) h
-          (λ i lt. ap (cond (isIn i es) (Reference i)) (other i (ne-eqb x i (λ r. let q = ltb-false x (c .heapTop) p in omega arith))))) refl refl refl
+        (λ i lt. ap (cond (isIn i es) (Reference i)) (other i (ne-eqb x i (λ r. let q = ltb-false x (c .heapTop) p in omega arith))))) refl refl refl
       where
         es : List ℕ
         es = drop (c .trailTop) (t .trail)

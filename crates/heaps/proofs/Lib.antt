@@ -5,3 +5,10 @@ pub mod CutLaws
 pub mod BackRules
 pub mod BackFits
 pub mod WordLaws
+pub mod SetUpRules
+pub mod RegisterRules
+pub mod ChoiceRules
+pub mod GrowRules
+pub mod NewRules
+pub mod RulesProp
+pub mod UndoRules

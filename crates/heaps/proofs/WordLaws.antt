@@ -56,8 +56,10 @@ pub keeps-register : (t : Tables) (r : ℕ) → Stands t → Keeps t (register t
 keeps-register t r s = (each-at (WordKeeps (heapOf (t .heap)) (used t)) (t .registers) r (Atom 0) tt (s .0 .registers .0), each-at Ranged (t .registers) r (Atom 0) refl (s .1 .register-range))
 
 pub keeps-saved : (t : Tables) (k r : ℕ) → Stands t → Keeps t (getD (choiceAt t k .saved) r (Atom 0))
-keeps-saved t k r s = (each-at Word (choiceAt t k .saved) r (Atom 0) tt (each-at (λ c. Each Word (c .saved)) (t .choices) k noChoice (tt, (tt, (tt, (tt, (tt, (tt, (tt, (tt, tt)))))))) (s .0 .registers .1)),
-    each-at Ranged (choiceAt t k .saved) r (Atom 0) refl (each-at (λ c. Each Ranged (c .saved)) (t .choices) k noChoice (refl, (refl, (refl, (refl, (refl, (refl, (refl, (refl, tt)))))))) (s .1 .saved-range)))
+keeps-saved t k r s = (
+  each-at Word (choiceAt t k .saved) r (Atom 0) tt (each-at (λ c. Each Word (c .saved)) (t .choices) k noChoice (tt, (tt, (tt, (tt, (tt, (tt, (tt, (tt, tt)))))))) (s .0 .registers .1)),
+  each-at Ranged (choiceAt t k .saved) r (Atom 0) refl (each-at (λ c. Each Ranged (c .saved)) (t .choices) k noChoice (refl, (refl, (refl, (refl, (refl, (refl, (refl, (refl, tt)))))))) (s .1 .saved-range)),
+)
   where
     Word : Cell → Type 0
     Word = WordKeeps (heapOf (t .heap)) (used t)
