@@ -3,9 +3,9 @@ use mathlib.Core.Path.{_≡_, refl, ap, _∙_, sym, subst}
 use mathlib.Core.Bool.{Bool, true, false, cond}
 use mathlib.Core.List.{List, [], _∷_}
 use mathlib.Core.Logic.{_⊎_, inl, inr}
-use Prim.Native.Nat.{ℕ, _+_, _<_, _≤_}
+use Prim.Native.Nat.{ℕ, _<_, _≤_}
 use native.Mathlib.Omega.{arith}
-use lib.ListN.{length, take, drop}
+use lib.ListN.{length, drop}
 use Rattle.std.proofs.shelf.Lists.{take-take}
 use Rattle.std.proofs.shelf.Tests.{eq-eqb, both-ways, cases-lt}
 use Rattle.cells.specs.declared.cell.Cell.{Cell}
@@ -15,7 +15,7 @@ use Rattle.heaps.specs.Lists.{Each, isIn}
 use Rattle.heaps.specs.Leads.{Heap, heapOf, LeadsBy, refersTo, unbound, isFunctor, Leads, Way, step, more}
 use Rattle.heaps.specs.Levels.{seenFrom, backTo, lastOf, last}
 use Rattle.heaps.specs.Rules.{ReferencesLead, PointersLead, ArgumentsStand, WordKeeps, EntryNames, TopsFall, Closed, Rules}
-use Rattle.heaps.proofs.EachLaws.{each-map, each-two, each-take, each-in, isIn-from-drop, different-take, taken-apart}
+use Rattle.heaps.proofs.EachLaws.{each-two, each-take, each-in, isIn-from-drop, different-take, taken-apart}
 use Rattle.heaps.proofs.UnbindLaws.{undone, heapOf-unbindAll, heapOf-take, heapOf-past}
 use Rattle.heaps.proofs.CutLaws.{Under, tops-under, seen-older, length-back, falls-back}
 

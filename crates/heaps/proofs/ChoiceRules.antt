@@ -1,24 +1,20 @@
--- Opening a choice point, going back to one that stays, and removing the newest ones keep the rules.
-use mathlib.Core.Path.{_≡_, refl, ap, _∙_, sym, subst}
+-- Opening a choice point and removing the newest ones keep the rules.
+use mathlib.Core.Path.{_≡_, sym, subst}
 use mathlib.Core.Bool.{true}
-use mathlib.Core.List.{List, [], _∷_}
-use Prim.Native.Nat.{ℕ, zero, suc, _-_, _<_, _≤_}
+use mathlib.Core.List.{List, _∷_}
+use Prim.Native.Nat.{ℕ, _-_, _<_, _≤_}
 use native.Mathlib.Omega.{arith}
-use lib.ListN.{length, take, drop}
-use Rattle.std.proofs.shelf.Lists.{length-drop, length-take-le, drop-all, take-all}
-use Rattle.cells.specs.declared.cell.Cell.{Cell}
+use lib.ListN.{length, drop}
+use Rattle.std.proofs.shelf.Lists.{length-drop, drop-all, take-all}
 use Rattle.cells.specs.Cells.{inRange}
 use Rattle.tables.specs.Tables.{Choice, Tables, used, present, pushChoice, keepChoices, withChoices}
 use Rattle.heaps.specs.Lists.{Each}
 use Rattle.heaps.specs.Leads.{heapOf, LeadsBy}
-use Rattle.heaps.specs.Levels.{unbindAll, seenFrom, backTo, lastOf, last, retryOf, retry}
+use Rattle.heaps.specs.Levels.{unbindAll}
 use Rattle.heaps.specs.Rules.{WordKeeps, EntryNames, TopsFall, Closed, Rules, Fits}
-use Rattle.heaps.specs.LevelLaws.{Stands, HasChoice}
+use Rattle.heaps.specs.LevelLaws.{Stands}
 use Rattle.heaps.proofs.EachLaws.{each-map, each-drop}
-use Rattle.heaps.proofs.LastLaws.{tables-same}
-use Rattle.heaps.proofs.CutLaws.{length-back, tops-drop}
-use Rattle.heaps.proofs.BackRules.{rules-last}
-use Rattle.heaps.proofs.BackFits.{fits-last}
+use Rattle.heaps.proofs.CutLaws.{tops-drop}
 use Rattle.heaps.proofs.WordLaws.{word-leads, cell-leads}
 
 present-closed : (t : Tables) → Rules t → Closed (t .heap) (t .trail) (present t)
@@ -71,25 +67,3 @@ stands-keepChoices t k s = (
   where
     n : ℕ
     n = length (t .choices) - k
-
-choice-same : {r : List Cell} {h k m n : ℕ} → h ≡ k → m ≡ n → _≡_ {A = Choice} (record { saved = r; heapTop = h; trailTop = m }) (record { saved = r; heapTop = k; trailTop = n })
-choice-same {r} p q = λ i. record { saved = r; heapTop = p i; trailTop = q i }
-
-retry-is : (t : Tables) (cs : List Choice) → TopsFall (used t) (length (t .trail)) cs → 0 < length cs → retryOf cs t ≡ pushChoice (lastOf cs t)
-retry-is t [] o some = absurd (omega arith)
-retry-is t (c ∷ cs) o some = tables-same refl refl refl
-    (ap (λ (d : Choice). d ∷ cs) (choice-same (sym (length-back t c cs (o .0))) (sym (length-take-le (c .trailTop) (t .trail) (o .1)))))
-
-pub retry-last : (t : Tables) → Rules t → HasChoice t → retry t ≡ pushChoice (last t)
-retry-last t r some = retry-is t (t .choices) (r .tops) some
-
-pub stands-last : (t : Tables) → Stands t → Stands (last t)
-stands-last t s = (rules-last t (s .0), fits-last t (s .0) (s .1))
-
-pub stands-retry : (t : Tables) → Stands t → Stands (retry t)
-stands-retry t s = by (t .choices) refl
-  where
-    by : (cs : List Choice) → t .choices ≡ cs → Stands (retryOf (t .choices) t)
-    by [] e = subst (λ (fs : List Choice). Stands (retryOf fs t)) (sym e) s
-    by (c ∷ cs) e = subst Stands (sym (retry-last t (s .0) (let a = ap length e in omega arith)))
-        (stands-pushChoice (last t) (let a = ap length e in let b = s .1 .points in let d = ap (λ (fs : List Choice). length (lastOf fs t .choices)) e in omega arith) (stands-last t s))

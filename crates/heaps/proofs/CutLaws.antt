@@ -2,12 +2,11 @@
 -- older one alone. So the levels below those that are cut stay as they are.
 use mathlib.Core.Path.{_≡_, refl, ap, _∙_, sym, subst}
 use mathlib.Core.Bool.{Bool, true, false, cond, _||_}
-use mathlib.Core.List.{List, [], _∷_, _++_}
+use mathlib.Core.List.{List, [], _∷_}
 use Prim.Native.Nat.{ℕ, zero, suc, _+_, _-_, _<_, _≤_}
 use native.Mathlib.Omega.{arith}
 use lib.ListN.{length, take, drop}
 use Rattle.std.proofs.shelf.Lists.{length-take-le, length-drop, take-take, drop-all}
-use Rattle.cells.specs.declared.cell.Cell.{Cell}
 use Rattle.cells.specs.declared.cell.Cell.the-variants.{Reference}
 use Rattle.tables.specs.Tables.{Choice, Tables, used, withChoices, keepChoices}
 use Rattle.heaps.specs.Lists.{Each, isIn}
@@ -15,7 +14,7 @@ use Rattle.heaps.specs.Leads.{heapOf}
 use Rattle.heaps.specs.Levels.{seenFrom, backTo, lastOf, last, undo}
 use Rattle.heaps.specs.Rules.{TopsFall}
 use Rattle.heaps.proofs.EachLaws.{isIn-append}
-use Rattle.heaps.proofs.UnbindLaws.{undone, length-unbindAll, heapOf-unbindAll, heapOf-take, take-same, drop-split}
+use Rattle.heaps.proofs.UnbindLaws.{length-unbindAll, heapOf-unbindAll, heapOf-take, take-same, drop-split}
 use Rattle.heaps.proofs.LastLaws.{tables-same, newest}
 
 -- an older choice point sees the same cells from a newer one

@@ -1,5 +1,5 @@
 -- What holds of each member of a list holds of the members of its parts, and of one member; and members stay different in a part.
-use mathlib.Core.Path.{_≡_, refl, ap₂, subst}
+use mathlib.Core.Path.{_≡_, refl, subst}
 use mathlib.Core.Bool.{Bool, true, false, _||_}
 use mathlib.Core.List.{List, [], _∷_, _++_}
 use mathlib.Core.HLevel.{×-prop, Unit-prop}

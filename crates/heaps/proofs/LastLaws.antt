@@ -2,7 +2,7 @@
 use mathlib.Core.Path.{_≡_, refl, ap, _∙_, sym, subst}
 use mathlib.Core.Bool.{Bool, true, false, cond, _||_}
 use mathlib.Core.List.{List, [], _∷_, _++_}
-use Prim.Native.Nat.{ℕ, suc, _+_, _<_, _≤_}
+use Prim.Native.Nat.{ℕ, _<_, _≤_}
 use native.Mathlib.Omega.{arith}
 use lib.Dec.{eqb, ltb}
 use lib.ListN.{length, set, take, drop}
@@ -13,7 +13,7 @@ use Rattle.cells.specs.declared.cell.Cell.the-variants.{Reference, Pointer, Fun
 use Rattle.tables.specs.Tables.{Choice, Tables, used, withHeap, setRegister, pushChoice}
 use Rattle.heaps.specs.Lists.{isIn}
 use Rattle.heaps.specs.Leads.{heapOf, refersTo, unbound}
-use Rattle.heaps.specs.Levels.{unbindAll, seenFrom, backTo, lastOf, last}
+use Rattle.heaps.specs.Levels.{unbindAll, backTo, lastOf, last}
 use Rattle.heaps.specs.Binding.{bind, trailed}
 use Rattle.heaps.specs.Rules.{TopsFall}
 use Rattle.heaps.proofs.EachLaws.{isIn-append}

@@ -1,12 +1,12 @@
 -- A new unbound variable and a new structure keep the rules, and a register may take the reference or the pointer to them.
 use mathlib.Core.Path.{_≡_, refl, ap, _∙_, sym, subst}
-use mathlib.Core.Bool.{Bool, true, false}
+use mathlib.Core.Bool.{true, false}
 use mathlib.Core.List.{List, [], _∷_, _++_}
 use mathlib.Core.Logic.{_⊎_, inl, inr}
 use Prim.Native.Nat.{ℕ, zero, suc, _+_, _-_, _<_, _≤_}
 use native.Mathlib.Omega.{arith}
 use lib.ListN.{length, getD}
-use Rattle.std.proofs.shelf.Lists.{length-append, getD-append-right}
+use Rattle.std.proofs.shelf.Lists.{getD-append-right}
 use Rattle.std.proofs.shelf.Tests.{lt-ltb, cases-order}
 use Rattle.cells.specs.declared.cell.Cell.{Cell}
 use Rattle.cells.specs.declared.cell.Cell.the-variants.{Reference, Pointer, Functor, Atom, Integer}
@@ -16,7 +16,7 @@ use Rattle.heaps.specs.Lists.{Each}
 use Rattle.heaps.specs.Leads.{Heap, heapOf, isFunctor}
 use Rattle.heaps.specs.Rules.{WordKeeps}
 use Rattle.heaps.specs.LevelLaws.{Stands, Keeps, newVariable, newStructure, ArgumentsKeep}
-use Rattle.heaps.proofs.GrowRules.{NewCell, word, variable, functor, grown, used-grown, rules-grown, fits-grown}
+use Rattle.heaps.proofs.GrowRules.{NewCell, word, variable, functor, used-grown, rules-grown, fits-grown}
 
 -- the k-th new cell
 new-is : (t : Tables) (extra : List Cell) (i k : ℕ) → i ≡ used t + k → heapOf (t .heap ++ extra) i ≡ getD extra k (Reference i)

@@ -7,7 +7,7 @@ use Rattle.cells.specs.declared.cell.Cell.{Cell}
 use Rattle.cells.specs.Cells.{inRange}
 use Rattle.tables.specs.Tables.{Tables, used, setRegister}
 use Rattle.heaps.specs.Leads.{heapOf}
-use Rattle.heaps.specs.Rules.{WordKeeps, Rules, Fits}
+use Rattle.heaps.specs.Rules.{WordKeeps}
 use Rattle.heaps.specs.LevelLaws.{Stands, Keeps}
 use Rattle.heaps.proofs.EachLaws.{each-set}
 

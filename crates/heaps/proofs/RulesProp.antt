@@ -1,13 +1,11 @@
 -- Tables keep the rules and fit the memory in at most one way, so a field without content may hold this fact, and gives it back.
-use mathlib.Core.Path.{_≡_}
 use mathlib.Core.List.{List, [], _∷_}
-use mathlib.Core.Bool.{true, Bool-set}
+use mathlib.Core.Bool.{Bool-set}
 use mathlib.Core.Logic.{∥∥₁-elim}
 use mathlib.Core.HLevel.{Π-prop, ×-prop, ×₃-prop, Unit-prop, ⊥-prop}
-use Prim.Native.Nat.{ℕ, _<_, _≤_}
+use Prim.Native.Nat.{ℕ}
 use native.Mathlib.Nat.{ℕ-set}
 use native.Mathlib.Bridge.{le-prop}
-use lib.ListN.{length}
 use Rattle.cells.specs.declared.cell.Cell.{Cell}
 use Rattle.cells.specs.declared.cell.Cell.the-variants.{Reference, Pointer, Functor, Atom, Integer}
 use Rattle.tables.specs.Tables.{Choice, Tables}

@@ -6,7 +6,7 @@ use Prim.Native.Nat.{ℕ, zero, suc, _<_, _≤_}
 use native.Mathlib.Omega.{arith}
 use lib.Dec.{eqb}
 use lib.ListN.{length, getD, set, take, drop}
-use Rattle.std.proofs.shelf.Lists.{length-set, length-take-le, getD-set-same, getD-set-other, getD-take, getD-past, getD-default, set-past, ext-getD}
+use Rattle.std.proofs.shelf.Lists.{length-set, length-take-le, getD-set-same, getD-set-other, getD-take, getD-past, getD-default, ext-getD}
 use Rattle.std.proofs.shelf.Tests.{eqb-true, eqb-false, cases-lt}
 use mathlib.Core.Logic.{_⊎_, inl, inr}
 use Rattle.cells.specs.declared.cell.Cell.{Cell}

@@ -1,16 +1,15 @@
 -- In tables that keep the rules, cells in use lead to cells in use, and the words of registers, saved registers and
 -- arguments may stand in a register.
-use mathlib.Core.Path.{_≡_, refl, subst, sym}
+use mathlib.Core.Path.{_≡_, refl}
 use mathlib.Core.Bool.{true, false}
-use mathlib.Core.List.{List}
-use Prim.Native.Nat.{ℕ, suc, _+_, _<_, _≤_}
+use Prim.Native.Nat.{ℕ, _+_, _<_, _≤_}
 use native.Mathlib.Omega.{arith}
-use lib.ListN.{getD, replicate}
+use lib.ListN.{getD}
 use Rattle.std.proofs.shelf.Tests.{lt-ltb}
 use Rattle.cells.specs.declared.cell.Cell.{Cell}
 use Rattle.cells.specs.declared.cell.Cell.the-variants.{Reference, Pointer, Functor, Atom, Integer}
 use Rattle.cells.specs.Cells.{inRange}
-use Rattle.tables.specs.Tables.{Choice, Tables, used, cellAt, register, choiceAt, noChoice}
+use Rattle.tables.specs.Tables.{Tables, used, cellAt, register, choiceAt, noChoice}
 use Rattle.heaps.specs.Lists.{Each}
 use Rattle.heaps.specs.Leads.{Heap, heapOf, LeadsBy, isFunctor}
 use Rattle.heaps.specs.Rules.{WordKeeps, Rules, Fits}

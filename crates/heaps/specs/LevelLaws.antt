@@ -9,8 +9,7 @@ use Rattle.cells.specs.declared.cell.Cell.{Cell}
 use Rattle.cells.specs.declared.cell.Cell.the-variants.{Reference, Pointer, Functor, Atom}
 use Rattle.cells.specs.Cells.{inRange}
 use Rattle.tables.specs.Tables.{Choice, Tables, used, cellAt, register, setUp, withHeap, pushCell, setRegister, pushChoice, keepChoices, choiceAt}
-use Rattle.heaps.specs.Lists.{Each}
-use Rattle.heaps.specs.Leads.{Heap, heapOf, unbound}
+use Rattle.heaps.specs.Leads.{heapOf, unbound}
 use Rattle.heaps.specs.Levels.{backTo, last, retry, undo}
 use Rattle.heaps.specs.Binding.{bind}
 use Rattle.heaps.specs.Rules.{WordKeeps, Rules, Fits}

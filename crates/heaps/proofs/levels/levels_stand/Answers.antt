@@ -1,8 +1,7 @@
 use mathlib.Core.Path.{refl}
 use Rattle.heaps.proofs.LastLaws.{last-pushChoice, last-bind, last-setRegister, last-more}
 use Rattle.heaps.proofs.CutLaws.{back-back, undo-keepChoices}
-use Rattle.heaps.proofs.ChoiceRules.{retry-last, stands-last, stands-retry}
-use Rattle.heaps.proofs.UndoRules.{stands-undo}
+use Rattle.heaps.proofs.UndoRules.{retry-last, stands-last, stands-retry, stands-undo}
 use Rattle.heaps.proofs.levels.levels_stand.Needs as need
 
 pub returns : need.returns
