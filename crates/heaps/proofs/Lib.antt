@@ -2,3 +2,17 @@ pub mod Sound
 pub mod Pigeonhole
 pub mod Depth
 pub mod SpellLaws
+pub mod EachLaws
+pub mod UnbindLaws
+pub mod LastLaws
+pub mod CutLaws
+pub mod BackRules
+pub mod BackFits
+pub mod WordLaws
+pub mod SetUpRules
+pub mod RegisterRules
+pub mod ChoiceRules
+pub mod GrowRules
+pub mod NewRules
+pub mod RulesProp
+pub mod UndoRules

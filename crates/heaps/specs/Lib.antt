@@ -7,3 +7,4 @@ pub mod Binding
 pub mod Rules
 pub mod SpellingLaws
 pub mod Ends
+pub mod LevelLaws

@@ -2,3 +2,5 @@
 //! Definitions are in `specs/`, laws in `proofs/`. Each function states laws in its contract, so that callers can cite them.
 
 pub mod spelling;
+// What heaps mean: where cells lead, what they spell and reach, undoing, and the rules of tables.
+pub mod levels;
