@@ -1,0 +1,8 @@
+pub mod RuleTestsBasics
+pub mod RuleTestsCells
+pub mod RuleTestsTrail
+pub mod RuleTestsTops
+pub mod RuleTestsCycles
+pub mod RuleTestsLevels
+pub mod RuleTestsLowest
+pub mod RuleTestsFault

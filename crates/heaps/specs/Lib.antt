@@ -5,3 +5,5 @@ pub mod Reached
 pub mod Levels
 pub mod Binding
 pub mod Rules
+pub mod RuleTests
+pub mod RuleTestLaws
