@@ -1,20 +1,20 @@
 -- Rules 1 to 4: the tests of cells, registers and saved registers decide them.
-use mathlib.Core.Path.{_≡_, refl, subst, subst₂}
+use mathlib.Core.Path.{_≡_, refl, ap₂, subst}
 use mathlib.Core.Logic.{_↔_}
-use mathlib.Core.Bool.{Bool, true, false, not, _||_}
-use mathlib.Core.List.{List, [], _∷_}
-use Prim.Native.Nat.{ℕ, zero, suc, _+_, _-_, _*_, _/_, _%_, _<_, _≤_}
+use mathlib.Core.Bool.{true, false, not, _||_}
+use mathlib.Core.List.{List, []}
+use Prim.Native.Nat.{ℕ, suc, _+_, _*_, _/_, _%_, _<_, _≤_}
 use native.Mathlib.Omega.{arith}
 use lib.Dec.{leb}
 use lib.ListN.{length, getD}
 use Rattle.std.proofs.shelf.Tests.{both-ways, leb-false, lt-leb, not-false, not-from-true, or-parts, or-from}
 use Rattle.cells.specs.declared.cell.Cell.{Cell}
 use Rattle.cells.specs.declared.cell.Cell.the-variants.{Reference, Pointer, Functor, Atom, Integer}
-use Rattle.tables.specs.Tables.{Choice, Tables, used}
+use Rattle.tables.specs.Tables.{Tables, used}
 use Rattle.heaps.specs.declared.rule.Rule.the-variants.{References, Pointers, Arguments, Registers}
 use Rattle.heaps.specs.Lists.{Each}
 use Rattle.heaps.specs.Leads.{Heap, heapOf, isFunctor}
-use Rattle.heaps.specs.Rules.{ReferencesLead, PointersLead, ArgumentsStand, WordKeeps, RegistersKeep}
+use Rattle.heaps.specs.Rules.{ReferencesLead, PointersLead, ArgumentsStand, WordKeeps, RegistersKeep, Fits}
 use Rattle.heaps.specs.Reached.{anyFrom}
 use Rattle.heaps.specs.RuleTests.{strayReference, strayPointer, lacksArgument, strayWord, oldest, savedAt, partsOf}
 use Rattle.heaps.specs.RuleTestLaws.{InEights, Faultless}
@@ -67,6 +67,16 @@ module _ (h : Heap) (n : ℕ) where
   no-stray-keeps (Atom a) e = tt
   no-stray-keeps (Integer z) e = tt
 
+-- the saved registers by choice point and register
+pub saved-at : (t : Tables) (q r : ℕ) → r < 8 → savedAt t (8 * q + r) ≡ getD (oldest t q .saved) r (Atom 0)
+saved-at t q r lt =
+    let a : (8 * q + r) / 8 ≡ q = omega arith in
+    let b : (8 * q + r) % 8 ≡ r = omega arith in
+    ap₂ (λ (x y : ℕ). getD (oldest t x .saved) y (Atom 0)) a b
+
+pub fits-eights : (t : Tables) → Fits t → InEights t
+fits-eights t f = record { registers = f .registers; saved = f .saved }
+
 module _ (t : Tables) where
   pub references-decided : ReferencesLead (heapOf (t .heap)) (used t) ↔ Faultless (partsOf t References)
   references-decided = (
@@ -105,46 +115,41 @@ module _ (t : Tables) where
       h : Heap
       h = heapOf (t .heap)
 
+  abbrev Keeps : Cell → Type 0
+  Keeps w = WordKeeps (heapOf (t .heap)) (used t) w
+
+  abbrev NotStray : Cell → Type 0
+  NotStray w = strayWord (heapOf (t .heap)) (used t) w ≡ false
+
+  -- eight words, by their places
+  words-at : (ws : List Cell) → length ws ≡ 8 → Each Keeps ws → (r : ℕ) → r < 8 → NotStray (getD ws r (Atom 0))
+  words-at ws e k r lt = keeps-no-stray (heapOf (t .heap)) (used t) (getD ws r (Atom 0)) (each-at Keeps ws (Atom 0) k r (omega arith))
+
+  at-words : (ws : List Cell) → length ws ≡ 8 → ((r : ℕ) → r < 8 → NotStray (getD ws r (Atom 0))) → Each Keeps ws
+  at-words ws e f =
+      at-each Keeps ws (Atom 0) (λ r lt. no-stray-keeps (heapOf (t .heap)) (used t) (getD ws r (Atom 0)) (f r (omega arith)))
+
   module _ (eights : InEights t) where
-    abbrev Stray : Cell → Type 0
-    Stray w = strayWord (heapOf (t .heap)) (used t) w ≡ false
+    eight : (p : ℕ) → p < length (t .choices) → length (oldest t p .saved) ≡ 8
+    eight = each-oldest t (λ c. length (c .saved) ≡ 8) (eights .saved)
 
-    abbrev StrayAt : Choice → Type 0
-    StrayAt c = (r : ℕ) → r < 8 → Stray (getD (c .saved) r (Atom 0))
+    keep-registers : RegistersKeep t → Faultless (partsOf t Registers)
+    keep-registers k = (
+      words-at (t .registers) (eights .registers) (k .0),
+      (
+        (λ p lt.
+            let q : p / 8 < length (t .choices) = omega arith in
+            words-at (oldest t (p / 8) .saved) (eight (p / 8) q) (each-oldest t (λ c. Each Keeps (c .saved)) (k .1) (p / 8) q) (p % 8) (omega arith)),
+        tt,
+      ),
+    )
 
-    -- eight words, by their places
-    words-at : (ws : List Cell) → length ws ≡ 8 → Each (WordKeeps (heapOf (t .heap)) (used t)) ws → (r : ℕ) → r < 8 → Stray (getD ws r (Atom 0))
-    words-at ws e k r lt = keeps-no-stray (heapOf (t .heap)) (used t) (getD ws r (Atom 0)) (each-at (WordKeeps (heapOf (t .heap)) (used t)) ws (Atom 0) k r (omega arith))
-
-    at-words : (ws : List Cell) → length ws ≡ 8 → ((r : ℕ) → r < 8 → Stray (getD ws r (Atom 0))) → Each (WordKeeps (heapOf (t .heap)) (used t)) ws
-    at-words ws e f = at-each (WordKeeps (heapOf (t .heap)) (used t)) ws (Atom 0) (λ r lt. no-stray-keeps (heapOf (t .heap)) (used t) (getD ws r (Atom 0)) (f r (omega arith)))
+    registers-keep : Faultless (partsOf t Registers) → RegistersKeep t
+    registers-keep f = (
+      at-words (t .registers) (eights .registers) (f .0),
+      oldest-each t (λ c. Each Keeps (c .saved)) (λ q lt.
+          at-words (oldest t q .saved) (eight q lt) (λ r lt8. subst NotStray (saved-at t q r lt8) (f .1 .0 (8 * q + r) (omega arith)))),
+    )
 
     pub registers-decided : RegistersKeep t ↔ Faultless (partsOf t Registers)
-    registers-decided = (there, back)
-      where
-        Eight : Choice → Type 0
-        Eight c = length (c .saved) ≡ 8
-
-        Kept : Choice → Type 0
-        Kept c = Each (WordKeeps (heapOf (t .heap)) (used t)) (c .saved)
-
-        there : RegistersKeep t → Faultless (partsOf t Registers)
-        there k = (
-          words-at (t .registers) (eights .registers) (k .0),
-          (
-            (λ p lt.
-                let q : p / 8 < length (t .choices) = omega arith in
-                words-at (oldest t (p / 8) .saved) (each-oldest t Eight (eights .saved) (p / 8) q) (each-oldest t Kept (k .1) (p / 8) q) (p % 8) (omega arith)),
-            tt,
-          ),
-        )
-
-        back : Faultless (partsOf t Registers) → RegistersKeep t
-        back f = (
-          at-words (t .registers) (eights .registers) (f .0),
-          oldest-each t Kept (λ q lt.
-              at-words (oldest t q .saved) (each-oldest t Eight (eights .saved) q lt) (λ r lt8.
-              let a : (8 * q + r) / 8 ≡ q = omega arith in
-              let b : (8 * q + r) % 8 ≡ r = omega arith in
-              subst₂ (λ (x y : ℕ). Stray (getD (oldest t x .saved) y (Atom 0))) a b (f .1 .0 (8 * q + r) (omega arith)))),
-        )
+    registers-decided = (keep-registers, registers-keep)

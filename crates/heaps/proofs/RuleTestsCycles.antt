@@ -1,14 +1,14 @@
 -- Rule 7: a cell that lies on a cycle comes back to itself in no more steps than there are cells, so the test decides it.
 use mathlib.Core.Path.{_≡_, refl, ap, subst, sym, _∙_}
 use mathlib.Core.Logic.{_⊎_, inl, inr, _↔_}
-use mathlib.Core.Bool.{Bool, true, false, cond, not, _||_, _&&_}
-use mathlib.Core.List.{List, [], _∷_}
-use Prim.Native.Nat.{ℕ, zero, suc, _+_, _<_, _≤_}
+use mathlib.Core.Bool.{Bool, true, false, not, _&&_}
+use mathlib.Core.List.{List, []}
+use Prim.Native.Nat.{ℕ, zero, suc, _<_, _≤_}
 use native.Mathlib.Omega.{arith}
 use lib.Dec.{eqb, ltb}
-use lib.ListN.{length, getD}
+use lib.ListN.{length}
 use Rattle.std.proofs.shelf.Lists.{getD-past}
-use Rattle.std.proofs.shelf.Tests.{both-ways, cases-lt, cases-eq, cases-bool, eqb-true, eq-eqb, ne-eqb, ltb-true, lt-ltb, cond-both, and-parts, and-from, or-cases, or-left, or-right, not-true, not-from-false}
+use Rattle.std.proofs.shelf.Tests.{both-ways, cases-lt, cases-eq, cases-bool, eqb-true, eq-eqb, ltb-true, lt-ltb, and-parts, and-from, or-cases, or-left, or-right, not-true, not-from-false}
 use Rattle.cells.specs.declared.cell.Cell.{Cell}
 use Rattle.cells.specs.declared.cell.Cell.the-variants.{Reference, Pointer, Functor, Atom, Integer}
 use Rattle.tables.specs.Tables.{Tables, used}
@@ -18,47 +18,8 @@ use Rattle.heaps.specs.Leads.{Heap, heapOf, first, many, LeadsBy, refersTo, un
 use Rattle.heaps.specs.Reached.{anyFrom, within}
 use Rattle.heaps.specs.RuleTests.{onCycle, partsOf}
 use Rattle.heaps.specs.RuleTestLaws.{Faultless, Cycle-decided}
+use Rattle.heaps.proofs.RuleTestsCounts.{without, without-other, count-without, count-most}
 use Rattle.heaps.proofs.RuleTestsBasics.{not-so, some-from, from-some}
-
--- the set s without x
-abbrev without : (ℕ → Bool) → ℕ → ℕ → Bool
-without s x k = not (eqb k x) && s k
-
-count-same : (s r : ℕ → Bool) (n : ℕ) → ((k : ℕ) → k < n → s k ≡ r k) → countBelow s n ≡ countBelow r n
-unfolding countBelow
-count-same s r zero f = refl
-count-same s r (suc n) f =
-    let e = count-same s r n (λ k lt. f k (omega arith)) in
-    let d : cond {A = ℕ} (s n) 1 0 ≡ cond (r n) 1 0 = ap (λ (b : Bool). cond b 1 0) (f n (omega arith)) in
-    omega arith
-
-without-other : (s : ℕ → Bool) (x k : ℕ) → (k ≡ x → ⊥) → without s x k ≡ s k
-without-other s x k f = ap (λ (b : Bool). not b && s k) (ne-eqb k x f)
-
--- Taking a member out lowers the count.
-count-without : (s : ℕ → Bool) (x n : ℕ) → x < n → s x ≡ true → suc (countBelow (without s x) n) ≡ countBelow s n
-unfolding countBelow
-count-without s x zero lt e = absurd (omega arith)
-count-without s x (suc n) lt e =
-    elim (cases-eq n x) [
-      | inl q ↦
-          let a = count-same (without s x) s n (λ k l. without-other s x k (omega arith)) in
-          let b : cond {A = ℕ} (s n) 1 0 ≡ 1 = ap (λ (c : Bool). cond c 1 0) (ap s q ∙ e) in
-          let d : cond {A = ℕ} (without s x n) 1 0 ≡ 0 = ap (λ (c : Bool). cond (not c && s n) 1 0) (eq-eqb n x q) in
-          omega arith
-      | inr q ↦
-          let a = count-without s x n (omega arith) e in
-          let b : cond {A = ℕ} (without s x n) 1 0 ≡ cond (s n) 1 0 = ap (λ (c : Bool). cond c 1 0) (without-other s x n q) in
-          omega arith
-    ]
-
-count-most : (s : ℕ → Bool) (n : ℕ) → countBelow s n ≤ n
-unfolding countBelow
-count-most s zero = omega arith
-count-most s (suc n) =
-    let a = count-most s n in
-    let b : cond {A = ℕ} (s n) 1 0 ≤ 1 = cond-both (s n) 1 0 (λ (x : ℕ). x ≤ 1) (λ e. omega arith) (λ e. omega arith) in
-    omega arith
 
 unbound-self : (i : ℕ) (c : Cell) (j : ℕ) → refersTo i c ≡ true → LeadsBy i c j → j ≡ i
 unbound-self i (Reference m) j e l = let q = eqb-true m i e in omega arith

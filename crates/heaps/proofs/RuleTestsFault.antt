@@ -1,7 +1,7 @@
 -- The fault of tables: there is none exactly where the rules hold, and otherwise it is the lowest broken rule
 -- with its lowest line at fault, and nothing else is.
 use mathlib.Core.Path.{_≡_, refl, ap, subst, sym, _∙_}
-use mathlib.Core.Logic.{_⊎_, inl, inr, _↔_}
+use mathlib.Core.Logic.{inl, inr}
 use mathlib.Core.List.{List, [], _∷_}
 use Prim.Native.Nat.{ℕ, suc, _<_, _≤_}
 use native.Mathlib.Omega.{arith}

@@ -1,15 +1,14 @@
 -- The lowest place at fault, and the lowest line at fault of several parts.
 use mathlib.Core.Path.{_≡_, refl, ap, subst}
-use mathlib.Core.Logic.{_⊎_, inl, inr}
+use mathlib.Core.Logic.{inl, inr}
 use mathlib.Core.Bool.{Bool, true, false, cond}
 use mathlib.Core.List.{List, [], _∷_}
 use Prim.Native.Nat.{ℕ, zero, suc, _+_, _<_, _≤_}
 use native.Mathlib.Omega.{arith}
-use lib.ListN.{length}
 use Rattle.std.proofs.shelf.Tests.{both-ways, cases-eq, cases-order}
 use Rattle.std.specs.declared.option.Option.{Option}
 use Rattle.std.specs.declared.option.Option.the-variants.{Some, None}
-use Rattle.tables.specs.Tables.{Tables, used}
+use Rattle.tables.specs.Tables.{Tables}
 use Rattle.heaps.specs.declared.rule.Rule.{Rule}
 use Rattle.heaps.specs.declared.rule.Rule.the-variants.{References, Pointers, Arguments, Registers, Trail, Tops, Cycles, Levels}
 use Rattle.heaps.specs.RuleTests.{Part, partsOf, lowestFrom, plusLine, orElse, lowestLine}

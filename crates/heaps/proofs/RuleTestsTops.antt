@@ -1,7 +1,7 @@
 -- Rule 6: the tests of heap tops and trail tops decide it.
-use mathlib.Core.Path.{_≡_, refl, subst, subst₂}
+use mathlib.Core.Path.{_≡_, subst, subst₂}
 use mathlib.Core.Logic.{_↔_}
-use mathlib.Core.Bool.{Bool, true, false, _||_}
+use mathlib.Core.Bool.{false}
 use mathlib.Core.List.{List, [], _∷_}
 use Prim.Native.Nat.{ℕ, zero, suc, _-_, _<_, _≤_}
 use native.Mathlib.Omega.{arith}
@@ -11,7 +11,7 @@ use Rattle.std.proofs.shelf.Tests.{ltb-false, le-ltb, or-parts, or-from}
 use Rattle.tables.specs.Tables.{Choice, Tables, used, noChoice}
 use Rattle.heaps.specs.declared.rule.Rule.the-variants.{Tops}
 use Rattle.heaps.specs.Rules.{TopsFall}
-use Rattle.heaps.specs.RuleTests.{strayTop, oldest, partsOf}
+use Rattle.heaps.specs.RuleTests.{strayTop, partsOf}
 use Rattle.heaps.specs.RuleTestLaws.{Faultless}
 
 -- tops of one kind, from the newest choice point on

@@ -1,9 +1,9 @@
 -- Rule 5: the test of trail entries decides it.
-use mathlib.Core.Path.{_≡_, refl, subst, sym, _∙_}
+use mathlib.Core.Path.{_≡_, refl, sym, _∙_}
 use mathlib.Core.Logic.{_↔_}
-use mathlib.Core.Bool.{Bool, true, false, _||_}
+use mathlib.Core.Bool.{Bool, false, _||_}
 use mathlib.Core.List.{List, [], _∷_}
-use Prim.Native.Nat.{ℕ, zero, suc, _<_, _≤_, min}
+use Prim.Native.Nat.{ℕ, zero, suc, _<_}
 use native.Mathlib.Omega.{arith}
 use lib.Dec.{eqb, leb}
 use lib.ListN.{length, getD, take}
@@ -11,7 +11,7 @@ use Rattle.std.proofs.shelf.Lists.{getD-take, length-take}
 use Rattle.std.proofs.shelf.Tests.{leb-false, lt-leb, eqb-false, ne-eqb, or-parts, or-from}
 use Rattle.tables.specs.Tables.{Tables, used}
 use Rattle.heaps.specs.declared.rule.Rule.the-variants.{Trail}
-use Rattle.heaps.specs.Lists.{Each, isIn, Different}
+use Rattle.heaps.specs.Lists.{isIn, Different}
 use Rattle.heaps.specs.Leads.{Heap, heapOf, unbound, isFunctor}
 use Rattle.heaps.specs.Rules.{EntryNames, TrailNames}
 use Rattle.heaps.specs.RuleTests.{misnames, partsOf}

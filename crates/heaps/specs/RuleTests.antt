@@ -1,6 +1,6 @@
 -- Which places of tables are at fault: for each rule a test of the places that it speaks of,
 -- and the fault of tables, which is the lowest broken rule with its lowest line at fault.
-use mathlib.Core.Bool.{Bool, true, false, cond, not, _||_, _&&_}
+use mathlib.Core.Bool.{Bool, false, cond, not, _||_, _&&_}
 use mathlib.Core.List.{List, [], _∷_}
 use Prim.Native.Nat.{ℕ, zero, suc, _+_, _-_, _*_, _/_, _%_}
 use lib.Dec.{leb, ltb}
@@ -81,7 +81,7 @@ leaks cells trail c =
     || (anyOf (leadsPast (c .heapTop) 0) (c .saved) || anyOf (leb (c .heapTop)) (take (c .trailTop) trail))
 
 -- The places, in the order of an image: a head line, the cells, the eight registers, the trail entries,
--- and from the oldest choice point on the heap tops, the trail tops and the saved registers, eight of each.
+-- the heap tops, the trail tops, and eight saved registers of each choice point, each from the oldest choice point on.
 
 -- the p-th choice point, counted from the oldest, which is the 0th
 abbrev pub oldest : Tables → ℕ → Choice
