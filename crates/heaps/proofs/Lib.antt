@@ -16,3 +16,13 @@ pub mod GrowRules
 pub mod NewRules
 pub mod RulesProp
 pub mod UndoRules
+pub mod RuleTestsBasics
+pub mod RuleTestsCells
+pub mod RuleTestsTrail
+pub mod RuleTestsTops
+pub mod RuleTestsCounts
+pub mod RuleTestsCycles
+pub mod RuleTestsLevels
+pub mod RuleTestsLowest
+pub mod RuleTestsFault
+mod RuleTestsExamples

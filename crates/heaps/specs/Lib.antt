@@ -8,3 +8,5 @@ pub mod Rules
 pub mod SpellingLaws
 pub mod Ends
 pub mod LevelLaws
+pub mod RuleTests
+pub mod RuleTestLaws
