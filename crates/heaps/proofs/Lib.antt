@@ -1,4 +1,13 @@
-pub mod Sound
+pub mod CountLaws
+pub mod MemberLaws
 pub mod Pigeonhole
+pub mod Sound
+pub mod WordLaws
+pub mod Put
 pub mod Depth
 pub mod SpellLaws
+pub mod Ranks
+pub mod BindReads
+pub mod BindLaws
+pub mod SeenLaws
+pub mod BindRules
