@@ -11,3 +11,7 @@ pub mod BindReads
 pub mod BindLaws
 pub mod SeenLaws
 pub mod BindRules
+pub mod MoveLaws
+pub mod FrameLaws
+pub mod ShortenLaws
+pub mod EndLaws

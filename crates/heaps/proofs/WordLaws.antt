@@ -53,12 +53,12 @@ head-word (Atom a) e = (refl, refl)
 head-word (Integer z) e = (refl, refl)
 
 -- a word that is no functor leads to the same cells wherever it stands
-pub word-leads : (i j : ℕ) (c : Cell) → isFunctor c ≡ false → LeadsBy 0 c j → LeadsBy i c j
-word-leads i j (Reference n) e l = l
-word-leads i j (Pointer n) e l = l
-word-leads i j (Functor name arity) e l = absurd (both-ways true e refl)
-word-leads i j (Atom a) e l = l
-word-leads i j (Integer z) e l = l
+pub word-leads : (i k j : ℕ) (c : Cell) → isFunctor c ≡ false → LeadsBy i c j → LeadsBy k c j
+word-leads i k j (Reference n) e l = l
+word-leads i k j (Pointer n) e l = l
+word-leads i k j (Functor name arity) e l = absurd (both-ways true e refl)
+word-leads i k j (Atom a) e l = l
+word-leads i k j (Integer z) e l = l
 
 -- a functor leads to its arguments
 pub argument-leads : (i j : ℕ) (c : Cell) → i < j → j ≤ i + arityOf c → LeadsBy i c j

@@ -5,4 +5,6 @@ pub mod Reached
 pub mod Levels
 pub mod Binding
 pub mod Rules
+pub mod Moving
+pub mod Ends
 pub mod SpellingLaws
