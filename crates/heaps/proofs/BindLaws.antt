@@ -1,5 +1,5 @@
 -- Binding an unbound cell is a substitution of its variable, keeps rules 1 to 3 and makes no cycle.
-use mathlib.Core.Path.{_≡_, refl, ap, ap₂, _∙_, sym}
+use mathlib.Core.Path.{_≡_, refl, ap, _∙_, sym}
 use mathlib.Core.Bool.{true, false}
 use Prim.Native.Nat.{ℕ, suc, _<_}
 use lib.ListN.{length-set}
@@ -13,7 +13,7 @@ use Rattle.heaps.specs.Binding.{bind}
 use Rattle.heaps.specs.Rules.{WordKeeps, Rules}
 use Rattle.heaps.specs.SpellingLaws.{Reads, Bindable, Spell-bind}
 use Rattle.heaps.proofs.Sound.{Sound, rules-sound}
-use Rattle.heaps.proofs.WordLaws.{false-of, refers-eq, unbound-is, keeps-word}
+use Rattle.heaps.proofs.WordLaws.{false-of, refers-eq, unbound-is, keeps-word, keeps-kinds}
 use Rattle.heaps.proofs.Put.{heap-set, put-kind, put-sound}
 use Rattle.heaps.proofs.SpellLaws.{reads-by, reads-only}
 use Rattle.heaps.proofs.Ranks.{marked, reads-acyclic}
@@ -75,6 +75,10 @@ module _ (t : Tables) (x : ℕ) (w : Cell) (r : Rules t) (b : Bindable t x w) wh
 
   pub bind-replaces : Replaced (heapOf (t .heap)) (heapOf (bind t x w .heap)) (used t) x (spell (t .heap) w)
   bind-replaces = rw heap-bind (put-replaces (heapOf (t .heap)) (used t) (rules-sound t r) (r .acyclic) x (b .in-use) (b .free) w (b .keeps) (b .absent))
+
+  -- words as registers hold them stay so
+  pub keeps-bind : (c : Cell) → WordKeeps (heapOf (t .heap)) (used t) c → WordKeeps (heapOf (bind t x w .heap)) (used (bind t x w)) c
+  keeps-bind c k = rw used-bind (keeps-kinds (heapOf (t .heap)) (heapOf (bind t x w .heap)) (used t) (bind-replaces .kinds) c k)
 
   -- the cell is bound now
   pub now-bound : unbound (heapOf (bind t x w .heap)) x ≡ false

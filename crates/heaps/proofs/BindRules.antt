@@ -4,7 +4,7 @@ use mathlib.Core.List.{List, [], _∷_, _++_}
 use mathlib.Core.Bool.{Bool, true, false, cond, _||_}
 use Prim.Native.Nat.{ℕ, zero, suc, _<_, _≤_}
 use native.Mathlib.Omega.{arith}
-use lib.Dec.{eqb, ltb}
+use lib.Dec.{eqb}
 use lib.ListN.{length, set, take, drop, length-append}
 use lib.Seq.{getD-set-other, take-append-le, drop-append-le}
 use Rattle.std.proofs.shelf.Tests.{both-ways, eqb-true, eqb-false, ne-eqb, ltb-false}
@@ -17,7 +17,7 @@ use Rattle.heaps.specs.Leads.{heapOf, LeadsBy, refersTo, unbound, isFunctor}
 use Rattle.heaps.specs.Spelling.{spell}
 use Rattle.heaps.specs.Levels.{seenFrom}
 use Rattle.heaps.specs.Binding.{trailed, bind}
-use Rattle.heaps.specs.Rules.{WordKeeps, EntryNames, TopsFall, Closed, Rules, Fits}
+use Rattle.heaps.specs.Rules.{WordKeeps, EntryNames, TopsFall, Closed, Rules}
 use Rattle.heaps.specs.SpellingLaws.{Bindable, Rules-bind, Fits-bind}
 use Rattle.heaps.proofs.MemberLaws.{each-map, each-joined}
 use Rattle.heaps.proofs.Pigeonhole.{pigeonhole}

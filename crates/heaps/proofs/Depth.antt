@@ -11,7 +11,7 @@ use Rattle.std.proofs.shelf.Tests.{both-ways, eq-eqb}
 use Rattle.cells.specs.declared.cell.Cell.{Cell}
 use Rattle.cells.specs.declared.cell.Cell.the-variants.{Reference, Pointer, Functor, Atom, Integer}
 use Rattle.heaps.specs.Lists.{Each, isIn, Different}
-use Rattle.heaps.specs.Leads.{Heap, refersTo, unbound, isFunctor, LeadsBy, Leads, Way, step, more, Acyclic}
+use Rattle.heaps.specs.Leads.{Heap, unbound, isFunctor, LeadsBy, Leads, Way, step, more, Acyclic}
 use Rattle.heaps.specs.Spelling.{arityOf}
 use Rattle.heaps.proofs.Sound.{Sound}
 use Rattle.heaps.proofs.MemberLaws.{each-map, each-in}

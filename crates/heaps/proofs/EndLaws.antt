@@ -2,15 +2,15 @@
 use mathlib.Core.Path.{_≡_, refl, ap, _∙_, sym, subst}
 use mathlib.Core.Bool.{Bool, true, false, cond}
 use mathlib.Core.Logic.{_⊎_, inl, inr}
-use Prim.Native.Nat.{ℕ, zero, suc, _<_, _≤_}
+use Prim.Native.Nat.{ℕ, zero, suc, _<_}
 use native.Mathlib.Omega.{arith}
 use Rattle.std.proofs.shelf.Tests.{both-ways}
 use Rattle.cells.specs.declared.cell.Cell.{Cell}
 use Rattle.cells.specs.declared.cell.Cell.the-variants.{Reference, Pointer, Functor, Atom, Integer}
 use Rattle.tables.specs.Tables.{Tables, used}
 use Rattle.terms.specs.Terms.{Term, var}
-use Rattle.heaps.specs.Leads.{Heap, heapOf, unbound, isFunctor, Acyclic}
-use Rattle.heaps.specs.Spelling.{spellBy, same}
+use Rattle.heaps.specs.Leads.{Heap, heapOf, unbound}
+use Rattle.heaps.specs.Spelling.{same}
 use Rattle.heaps.specs.Rules.{WordKeeps, Rules}
 use Rattle.heaps.specs.Ends.{endBy, stepsBy, end, stepsToEnd}
 use Rattle.heaps.specs.SpellingLaws.{Reads, End-ends, Spell-end, End-keeps, End-step, Steps-within}

@@ -1,18 +1,16 @@
 -- Heaps that agree on all that a word reaches spell the same term there.
 use mathlib.Core.Path.{_≡_, refl, ap, _∙_, sym}
-use mathlib.Core.Bool.{true, false}
 use mathlib.Core.List.{[], _∷_}
 use Prim.Native.Nat.{ℕ, suc, _+_}
 use native.Mathlib.Omega.{arith}
 use Rattle.cells.specs.declared.cell.Cell.{Cell}
 use Rattle.cells.specs.declared.cell.Cell.the-variants.{Reference, Pointer, Functor, Atom, Integer}
-use Rattle.tables.specs.Tables.{Tables, used}
+use Rattle.tables.specs.Tables.{used}
 use Rattle.terms.proofs.TermLaws.{apply-var}
 use Rattle.heaps.specs.Lists.{here}
 use Rattle.heaps.specs.Leads.{Heap, heapOf, relocate, Acyclic}
 use Rattle.heaps.specs.Spelling.{spellBy, same}
 use Rattle.heaps.specs.Reached.{Reaches, direct, onward}
-use Rattle.heaps.specs.Rules.{Rules}
 use Rattle.heaps.specs.Moving.{Moves}
 use Rattle.heaps.specs.SpellingLaws.{Spell-frame}
 use Rattle.heaps.proofs.Sound.{Sound, rules-sound}

@@ -15,3 +15,5 @@ pub mod MoveLaws
 pub mod FrameLaws
 pub mod ShortenLaws
 pub mod EndLaws
+pub mod MovedSound
+mod SpellingExamples

@@ -4,15 +4,14 @@ use mathlib.Core.Bool.{Bool, true, false, cond}
 use Prim.Native.Nat.{ℕ, zero, suc, _+_, _-_, _<_, _≤_}
 use native.Mathlib.Omega.{arith}
 use lib.Dec.{eqb}
-use Rattle.std.proofs.shelf.Tests.{both-ways, eqb-true, eqb-false, eq-eqb, ne-eqb}
+use Rattle.std.proofs.shelf.Tests.{eqb-true, eqb-false, eq-eqb, ne-eqb}
 use Rattle.cells.specs.declared.cell.Cell.{Cell}
 use Rattle.cells.specs.declared.cell.Cell.the-variants.{Reference, Pointer, Functor, Atom, Integer}
-use Rattle.tables.specs.Tables.{Tables, used}
+use Rattle.tables.specs.Tables.{used}
 use Rattle.terms.specs.Terms.{Term, var, node, cons}
 use Rattle.terms.specs.Renamings.{rename}
 use Rattle.heaps.specs.Leads.{Heap, heapOf, LeadsBy, refersTo, unbound, isFunctor, Leads, Way, step, more, Acyclic, relocate}
-use Rattle.heaps.specs.Spelling.{labelOf, arityOf, run, spellBy, same, spell}
-use Rattle.heaps.specs.Rules.{Rules}
+use Rattle.heaps.specs.Spelling.{labelOf, arityOf, run, spellBy, same}
 use Rattle.heaps.specs.Moving.{Moves}
 use Rattle.heaps.specs.SpellingLaws.{Spell-moved, Acyclic-moved}
 use Rattle.heaps.proofs.WordLaws.{word-leads, argument-leads}

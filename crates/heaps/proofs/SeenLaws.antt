@@ -7,7 +7,7 @@ use native.Mathlib.Omega.{arith}
 use native.Mathlib.Decide.{decLt}
 use lib.Dec.{eqb}
 use lib.ListN.{length, set, length-set, List·getD-eq-default}
-use lib.Seq.{getD-set-same, getD-set-other, set-out}
+use lib.Seq.{getD-set-same, getD-set-other}
 use Rattle.std.proofs.shelf.Tests.{both-ways, eqb-true, eqb-false, ne-eqb, eq-eqb, or-parts, or-left}
 use Rattle.cells.specs.declared.cell.Cell.{Cell}
 use Rattle.cells.specs.declared.cell.Cell.the-variants.{Reference}
@@ -50,7 +50,10 @@ in-joined i (x ∷ xs) ys = ap (λ (b : Bool). eqb x i || b) (in-joined i xs ys)
 -- different numbers and one more that is none of them
 pub different-push : (xs : List ℕ) (x : ℕ) → Different xs → isIn x xs ≡ false → Different (xs ++ (x ∷ []))
 different-push [] x d e = (refl, tt)
-different-push (y ∷ ys) x d e = (in-joined y ys (x ∷ []) ∙ ap₂ _||_ (d .0) (ap (λ (b : Bool). b || false) (ne-eqb x y other)), different-push ys x (d .1) (or-parts (eqb y x) (isIn x ys) e .1))
+different-push (y ∷ ys) x d e = (
+  in-joined y ys (x ∷ []) ∙ ap₂ _||_ (d .0) (ap (λ (b : Bool). b || false) (ne-eqb x y other)),
+  different-push ys x (d .1) (or-parts (eqb y x) (isIn x ys) e .1),
+)
   where
     other : x ≡ y → ⊥
     other p = both-ways (eqb y x || isIn x ys) e (or-left (eqb y x) (isIn x ys) (eq-eqb y x (sym p)))

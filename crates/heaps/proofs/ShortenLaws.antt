@@ -9,11 +9,10 @@ use lib.ListN.{set, length-set}
 use Rattle.std.proofs.shelf.Tests.{both-ways, eqb-true, eq-eqb}
 use Rattle.cells.specs.declared.cell.Cell.{Cell}
 use Rattle.cells.specs.declared.cell.Cell.the-variants.{Reference, Pointer, Functor, Atom, Integer}
-use Rattle.tables.specs.Tables.{Tables, used}
+use Rattle.tables.specs.Tables.{used}
 use Rattle.terms.specs.Terms.{named, Term, var, node, nil}
 use Rattle.heaps.specs.Leads.{Heap, heapOf, put, LeadsBy, refersTo, unbound, isFunctor, Leads, Way, step, more, Acyclic}
 use Rattle.heaps.specs.Spelling.{labelOf, arityOf, run, spellBy, same}
-use Rattle.heaps.specs.Rules.{Rules}
 use Rattle.heaps.specs.SpellingLaws.{Reads, Spell-shorten}
 use Rattle.heaps.proofs.Sound.{Sound, rules-sound, cell-keeps}
 use Rattle.heaps.proofs.WordLaws.{false-of, refers-eq, head-word, word-leads}
@@ -93,7 +92,8 @@ module _ (h : Heap) (m : ℕ) (sound : Sound h m) (acyclic : Acyclic h) (i n : �
 pub spell-shorten : Spell-shorten
 spell-shorten t i n r refers bound target = (
   rw set-is (shorten-acyclic h i n refers bound target (word h (used t) (rules-sound t r) (r .acyclic) i n refers bound target) (r .acyclic)),
-  λ c. ap₂ (λ (g : Heap) (m : ℕ). spellBy same g (suc m) c) set-is (length-set (t .heap) i (h n)) ∙ shorten-spells h (used t) (rules-sound t r) (r .acyclic) i n refers bound target c,
+  λ c. ap₂ (λ (g : Heap) (m : ℕ). spellBy same g (suc m) c) set-is (length-set (t .heap) i (h n))
+      ∙ shorten-spells h (used t) (rules-sound t r) (r .acyclic) i n refers bound target c,
 )
   where
     h : Heap
