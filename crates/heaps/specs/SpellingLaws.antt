@@ -34,6 +34,34 @@ Spell-only = (t : Tables) → Rules t → (s : Cell → Term) → Reads same (he
 abbrev pub Spell-more : Type 0
 Spell-more = (t : Tables) → Rules t → (g : ℕ) → used t < g → (c : Cell) → spellBy same (heapOf (t .heap)) g c ≡ spell (t .heap) c
 
+-- Tables whose heaps agree on all that a word reaches spell the same term there.
+abbrev pub Spell-frame : Type 0
+Spell-frame = (t u : Tables) → Rules t → Rules u → (w : Cell) → ((i : ℕ) → Reaches (heapOf (t .heap)) (w ∷ []) i → heapOf (t .heap) i ≡ heapOf (u .heap) i)
+    → spell (t .heap) w ≡ spell (u .heap) w
+
+-- Ends of chains.
+
+-- The end of a word's chain is no reference to a bound cell.
+abbrev pub End-ends : Type 0
+End-ends = (t : Tables) → Rules t → (c : Cell) (n : ℕ) → end t c ≡ Reference n → unbound (heapOf (t .heap)) n ≡ true
+
+-- A word spells what the end of its chain spells, and the end is again a word as a register holds it.
+abbrev pub Spell-end : Type 0
+Spell-end = (t : Tables) → Rules t → (c : Cell) → spell (t .heap) (end t c) ≡ spell (t .heap) c
+
+abbrev pub End-keeps : Type 0
+End-keeps = (t : Tables) → Rules t → (c : Cell) → WordKeeps (heapOf (t .heap)) (used t) c → WordKeeps (heapOf (t .heap)) (used t) (end t c)
+
+-- A reference to a bound cell is one step before the word in that cell, and no chain has more steps than there are cells in use.
+abbrev pub End-step : Type 0
+End-step = (t : Tables) → Rules t → (n : ℕ) → unbound (heapOf (t .heap)) n ≡ false
+    → (end t (Reference n) ≡ end t (heapOf (t .heap) n)) × (stepsToEnd t (Reference n) ≡ suc (stepsToEnd t (heapOf (t .heap) n)))
+
+abbrev pub Steps-within : Type 0
+Steps-within = (t : Tables) → Rules t → (c : Cell) → stepsToEnd t c ≤ used t
+
+-- Binding.
+
 -- Cell x may be bound to the word w: it is an unbound variable in use, w is a word as a register holds it,
 -- and x does not occur in what w spells.
 pub record Bindable (t : Tables) (x : ℕ) (w : Cell) : Type 0 where
@@ -55,29 +83,7 @@ Rules-bind = (t : Tables) (x : ℕ) (w : Cell) → Rules t → Bindable t x w �
 abbrev pub Fits-bind : Type 0
 Fits-bind = (t : Tables) (x : ℕ) (w : Cell) → Rules t → Fits t → Bindable t x w → inRange w ≡ true → Fits (bind t x w)
 
--- Tables whose heaps agree on all that a word reaches spell the same term there.
-abbrev pub Spell-frame : Type 0
-Spell-frame = (t u : Tables) → Rules t → Rules u → (w : Cell) → ((i : ℕ) → Reaches (heapOf (t .heap)) (w ∷ []) i → heapOf (t .heap) i ≡ heapOf (u .heap) i)
-    → spell (t .heap) w ≡ spell (u .heap) w
-
--- The end of a word's chain is no reference to a bound cell.
-abbrev pub End-ends : Type 0
-End-ends = (t : Tables) → Rules t → (c : Cell) (n : ℕ) → end t c ≡ Reference n → unbound (heapOf (t .heap)) n ≡ true
-
--- A word spells what the end of its chain spells, and the end is again a word as a register holds it.
-abbrev pub Spell-end : Type 0
-Spell-end = (t : Tables) → Rules t → (c : Cell) → spell (t .heap) (end t c) ≡ spell (t .heap) c
-
-abbrev pub End-keeps : Type 0
-End-keeps = (t : Tables) → Rules t → (c : Cell) → WordKeeps (heapOf (t .heap)) (used t) c → WordKeeps (heapOf (t .heap)) (used t) (end t c)
-
--- A reference to a bound cell is one step before the word in that cell, and no chain has more steps than there are cells in use.
-abbrev pub End-step : Type 0
-End-step = (t : Tables) → Rules t → (n : ℕ) → unbound (heapOf (t .heap)) n ≡ false
-    → (end t (Reference n) ≡ end t (heapOf (t .heap) n)) × (stepsToEnd t (Reference n) ≡ suc (stepsToEnd t (heapOf (t .heap) n)))
-
-abbrev pub Steps-within : Type 0
-Steps-within = (t : Tables) → Rules t → (c : Cell) → stepsToEnd t c ≤ used t
+-- Moving and shortening.
 
 -- Words that lead only to moved cells spell the same terms afterwards, with each variable renamed as its cell was moved.
 abbrev pub Spell-moved : Type 0
