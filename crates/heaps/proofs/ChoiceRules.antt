@@ -15,7 +15,7 @@ use Rattle.heaps.specs.Rules.{WordKeeps, EntryNames, TopsFall, Closed, Rules, 
 use Rattle.heaps.specs.LevelLaws.{Stands}
 use Rattle.heaps.proofs.EachLaws.{each-map, each-drop}
 use Rattle.heaps.proofs.CutLaws.{tops-drop}
-use Rattle.heaps.proofs.WordLaws.{word-leads, cell-leads}
+use Rattle.heaps.proofs.KeptWords.{word-leads, cell-leads}
 
 present-closed : (t : Tables) → Rules t → Closed (t .heap) (t .trail) (present t)
 present-closed t r = record {

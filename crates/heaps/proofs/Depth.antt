@@ -6,16 +6,17 @@ use mathlib.Core.Logic.{_⊎_, inl, inr}
 use Prim.Native.Nat.{ℕ, zero, suc, _+_, _<_, _≤_}
 use native.Mathlib.Omega.{arith}
 use native.Mathlib.Decide.{decLt}
-use lib.Dec.{eqb}
 use lib.ListN.{length}
-use Rattle.std.proofs.shelf.Tests.{both-ways, eqb-true, eq-eqb, or-cases}
+use Rattle.std.proofs.shelf.Tests.{both-ways, eq-eqb}
 use Rattle.cells.specs.declared.cell.Cell.{Cell}
 use Rattle.cells.specs.declared.cell.Cell.the-variants.{Reference, Pointer, Functor, Atom, Integer}
-use Rattle.heaps.specs.Lists.{isIn, Different}
-use Rattle.heaps.specs.Leads.{Heap, refersTo, unbound, isFunctor, LeadsBy, Leads, Way, step, more, Acyclic}
+use Rattle.heaps.specs.Lists.{Each, isIn, Different}
+use Rattle.heaps.specs.Leads.{Heap, unbound, isFunctor, LeadsBy, Leads, Way, step, more, Acyclic}
 use Rattle.heaps.specs.Spelling.{arityOf}
 use Rattle.heaps.proofs.Sound.{Sound}
-use Rattle.heaps.proofs.Pigeonhole.{false-of, different-length}
+use Rattle.heaps.proofs.MemberLaws.{each-map, each-in}
+use Rattle.heaps.proofs.Pigeonhole.{pigeonhole}
+use Rattle.heaps.proofs.WordLaws.{false-of, unbound-is}
 
 -- g layers reach the end of all that the word c spells
 abbrev pub Deep : Heap → ℕ → Cell → Type 0
@@ -29,18 +30,6 @@ Deep h (suc g) (Integer z) = Unit {0}
 way-more : (h : Heap) {i j k : ℕ} → Way h i j → Leads h j k → Way h i k
 way-more h (step l) m = more l (step m)
 way-more h (more l w) m = more l (way-more h w m)
-
--- a word that refers to cell n is the reference to it
-pub refers-eq : (n : ℕ) (c : Cell) → refersTo n c ≡ true → c ≡ Reference n
-refers-eq n (Reference m) e = ap Reference (eqb-true m n e)
-refers-eq n (Pointer m) e = absurd (both-ways false refl e)
-refers-eq n (Functor name arity) e = absurd (both-ways false refl e)
-refers-eq n (Atom a) e = absurd (both-ways false refl e)
-refers-eq n (Integer z) e = absurd (both-ways false refl e)
-
--- an unbound cell holds the reference to itself
-pub unbound-is : (h : Heap) (n : ℕ) → unbound h n ≡ true → h n ≡ Reference n
-unbound-is h n e = refers-eq n (h n) e
 
 -- the same for what cell i holds; of a functor's cell, for each argument
 abbrev DeepAt : Heap → ℕ → ℕ → Cell → Type 0
@@ -73,43 +62,37 @@ argument-deep h g i (Atom k) d j a b = absurd (omega arith)
 argument-deep h g i (Integer z) d j a b = absurd (omega arith)
 
 module _ (h : Heap) (n : ℕ) (sound : Sound h n) (acyclic : Acyclic h) where
+  -- a cell in use from which a way leads to i
+  abbrev Before : ℕ → ℕ → Type 0
+  Before i v = (v < n) × Way h v i
+
+  absent : (vs : List ℕ) (i : ℕ) → Each (Before i) vs → isIn i vs ≡ false
+  absent vs i w = false-of _ (λ e. acyclic i (each-in (Before i) i vs w e .1))
+
   -- vs are the cells passed on the way to i
-  deep-from : (g : ℕ) (vs : List ℕ) (i : ℕ) → i < n → Different vs → ((v : ℕ) → isIn v vs ≡ true → (v < n) × Way h v i) → n ≤ length vs + g → DeepAt h g i (h i)
-  deep-from zero vs i lt d w le = absurd (let k = different-length n (i ∷ vs) (absent, d) below in omega arith)
+  deep-from : (g : ℕ) (vs : List ℕ) (i : ℕ) → i < n → Different vs → Each (Before i) vs → n ≤ length vs + g → DeepAt h g i (h i)
+  deep-from zero vs i lt d w le = absurd (let k = pigeonhole n (i ∷ vs) (absent vs i w, d) (lt, each-map (Before i) (λ v. v < n) (λ v p. p .0) vs w) in omega arith)
+  deep-from (suc g) vs i lt d w le = by (λ j l p. deep-from g (i ∷ vs) j p (absent vs i w, d) (passed j l) (omega arith)) (h i) refl
     where
-      absent : isIn i vs ≡ false
-      absent = false-of _ (λ e. acyclic i (w i e .1))
+      passed : (j : ℕ) → Leads h i j → Each (Before j) (i ∷ vs)
+      passed j l = ((lt, step l), each-map (Before i) (Before j) (λ v p. (p .0, way-more h (p .1) l)) vs w)
 
-      below : (x : ℕ) → isIn x (i ∷ vs) ≡ true → x < n
-      below x e = elim (or-cases (eqb i x) (isIn x vs) e) [ inl p ↦ subst (λ (y : ℕ). y < n) (eqb-true i x p) lt | inr p ↦ w x p .0 ]
-  deep-from (suc g) vs i lt d w le = by (λ j. deep-from g (i ∷ vs) j) (h i) refl
-    where
-      absent : isIn i vs ≡ false
-      absent = false-of _ (λ e. acyclic i (w i e .1))
-
-      ways : (j : ℕ) → Leads h i j → (v : ℕ) → isIn v (i ∷ vs) ≡ true → (v < n) × Way h v j
-      ways j l v e = elim (or-cases (eqb i v) (isIn v vs) e) [
-        | inl q ↦ let r = eqb-true i v q in (subst (λ (y : ℕ). y < n) r lt, subst (λ (y : ℕ). Way h y j) r (step l))
-        | inr q ↦ (w v q .0, way-more h (w v q .1) l)
-      ]
-
-      by : ((j : ℕ) → j < n → Different (i ∷ vs) → ((v : ℕ) → isIn v (i ∷ vs) ≡ true → (v < n) × Way h v j) → n ≤ suc (length vs) + g → DeepAt h g j (h j))
-          → (c : Cell) → h i ≡ c → DeepAt h (suc g) i c
+      by : ((j : ℕ) → Leads h i j → j < n → DeepAt h g j (h j)) → (c : Cell) → h i ≡ c → DeepAt h (suc g) i c
       by ih (Reference m) e = test (unbound h i) refl
         where
           test : (b : Bool) → unbound h i ≡ b → Deep h (suc g) (Reference m)
           test true q = inl (let f : Reference i ≡ Reference m = sym (unbound-is h i q) ∙ e in let p : i ≡ m = cc in subst (λ (y : ℕ). unbound h y ≡ true) p q)
           test false q = inr (let l : Leads h i m = (subst (λ (c : Cell). LeadsBy i c m) (sym e) (omega arith, omega arith), q) in
-              let r = sound .references i m lt e in word-deep h g m (h m) (r .1) (ih m (r .0) (absent, d) (ways m l) (omega arith)))
+              let r = sound .references i m lt e in word-deep h g m (h m) (r .1) (ih m l (r .0)))
       by ih (Pointer m) e = let l : Leads h i m = (subst (λ (c : Cell). LeadsBy i c m) (sym e) (omega arith, omega arith), rw e refl) in
-          argument-deep h g m (h m) (ih m (sound .pointers i m lt e .0) (absent, d) (ways m l) (omega arith))
+          argument-deep h g m (h m) (ih m l (sound .pointers i m lt e .0))
       by ih (Functor name arity) e = λ j p q. inr (let l : Leads h i j = (subst (λ (c : Cell). LeadsBy i c j) (sym e) (p, omega arith), rw e refl) in
-          let r = sound .arguments i name arity j lt e p q in word-deep h g j (h j) (r .1) (ih j (r .0) (absent, d) (ways j l) (omega arith)))
+          let r = sound .arguments i name arity j lt e p q in word-deep h g j (h j) (r .1) (ih j l (r .0)))
       by ih (Atom a) e = tt
       by ih (Integer z) e = tt
 
   cell-deep : (i : ℕ) → i < n → DeepAt h n i (h i)
-  cell-deep i p = deep-from n [] i p tt (λ v e. absurd (both-ways false refl e)) (omega arith)
+  cell-deep i p = deep-from n [] i p tt tt (omega arith)
 
   pub deep-all : (c : Cell) → Deep h (suc n) c
   deep-all (Reference m) = test (decLt m n)

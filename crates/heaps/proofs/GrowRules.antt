@@ -21,7 +21,7 @@ use Rattle.heaps.specs.LevelLaws.{Keeps}
 use Rattle.heaps.proofs.EachLaws.{each-map, each-two, each-append}
 use Rattle.heaps.proofs.UnbindLaws.{heapOf-unbindAll, heapOf-past}
 use Rattle.heaps.proofs.CutLaws.{Under, tops-under, tops-lower}
-use Rattle.heaps.proofs.WordLaws.{word-leads, cell-leads}
+use Rattle.heaps.proofs.KeptWords.{word-leads, cell-leads}
 
 -- What cell i may hold when the heap `old` of n cells grows to the heap `new` of m cells.
 pub data NewCell (old new : Heap) (n m i : ℕ) (c : Cell) : Type 0 where

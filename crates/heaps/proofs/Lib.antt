@@ -1,5 +1,9 @@
-pub mod Sound
+pub mod CountLaws
+pub mod MemberLaws
 pub mod Pigeonhole
+pub mod Sound
+pub mod WordLaws
+pub mod Put
 pub mod Depth
 pub mod SpellLaws
 pub mod EachLaws
@@ -8,7 +12,7 @@ pub mod LastLaws
 pub mod CutLaws
 pub mod BackRules
 pub mod BackFits
-pub mod WordLaws
+pub mod KeptWords
 pub mod SetUpRules
 pub mod RegisterRules
 pub mod ChoiceRules
@@ -26,3 +30,14 @@ pub mod RuleTestsLevels
 pub mod RuleTestsLowest
 pub mod RuleTestsFault
 mod RuleTestsExamples
+pub mod Ranks
+pub mod BindReads
+pub mod BindLaws
+pub mod SeenLaws
+pub mod BindRules
+pub mod MoveLaws
+pub mod FrameLaws
+pub mod ShortenLaws
+pub mod EndLaws
+pub mod MovedSound
+mod SpellingExamples

@@ -1,5 +1,5 @@
 -- A heap with n cells in use that keeps rules 1 to 3, as the spelling needs it; the rules of tables give it.
-use mathlib.Core.Path.{_≡_, sym, refl}
+use mathlib.Core.Path.{_≡_, refl}
 use mathlib.Core.Bool.{true, false}
 use Prim.Native.Nat.{ℕ, _<_, _≤_}
 use lib.ListN.{List·getD-eq-default}

@@ -1,7 +1,7 @@
 -- The spelling satisfies its one-layer equation, nothing else does, and more layers change nothing.
 -- All later proofs use the spelling through these facts alone.
 use mathlib.Core.Path.{_≡_, refl, ap, ap₂, _∙_, sym, fun-ext}
-use mathlib.Core.Bool.{cond}
+use mathlib.Core.Bool.{true, false, cond}
 use mathlib.Core.Logic.{inl, inr}
 use Prim.Native.Nat.{ℕ, zero, suc, _+_, _<_, _≤_}
 use native.Mathlib.Omega.{arith}
@@ -9,7 +9,7 @@ use native.Mathlib.Decide.{decLt}
 use Rattle.cells.specs.declared.cell.Cell.{Cell}
 use Rattle.cells.specs.declared.cell.Cell.the-variants.{Reference, Pointer, Functor, Atom, Integer}
 use Rattle.tables.specs.Tables.{Tables, used}
-use Rattle.terms.specs.Terms.{Term, var, node, cons}
+use Rattle.terms.specs.Terms.{functor, Term, var, node, cons}
 use Rattle.heaps.specs.Leads.{Heap, heapOf, unbound, Acyclic}
 use Rattle.heaps.specs.Spelling.{labelOf, arityOf, run, layer, spellBy, same, spell}
 use Rattle.heaps.specs.Rules.{Rules}
@@ -70,3 +70,14 @@ spell-only t r = reads-only (heapOf (t .heap)) (used t) (rules-sound t r) (r .ac
 
 pub spell-more : Spell-more
 spell-more t r = more-layers (heapOf (t .heap)) (used t) (rules-sound t r) (r .acyclic) same
+
+-- What the one-layer equation says of each kind of word.
+module _ (t : Tables) (r : Rules t) where
+  pub spell-unbound : (n : ℕ) → unbound (heapOf (t .heap)) n ≡ true → spell (t .heap) (Reference n) ≡ var n
+  spell-unbound n e = spell-layer t r (Reference n) ∙ rw e
+
+  pub spell-bound : (n : ℕ) → unbound (heapOf (t .heap)) n ≡ false → spell (t .heap) (Reference n) ≡ spell (t .heap) (heapOf (t .heap) n)
+  spell-bound n e = spell-layer t r (Reference n) ∙ ap (λ b. cond b (var n) (spell (t .heap) (heapOf (t .heap) n))) e
+
+  pub spell-pointer : (n name arity : ℕ) → heapOf (t .heap) n ≡ Functor name arity → spell (t .heap) (Pointer n) ≡ node (functor name arity) (run (spell (t .heap)) (suc n) arity)
+  spell-pointer n name arity e = spell-layer t r (Pointer n) ∙ ap (λ c. node (labelOf c) (run (spell (t .heap)) (suc n) (arityOf c))) e

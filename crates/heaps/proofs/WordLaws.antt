@@ -1,67 +1,69 @@
--- In tables that keep the rules, cells in use lead to cells in use, and the words of registers, saved registers and
--- arguments may stand in a register.
-use mathlib.Core.Path.{_≡_, refl}
-use mathlib.Core.Bool.{true, false}
+-- What the kinds of words have in common: unbound cells, words that keep rules 1 and 2, and words that are no functors.
+use mathlib.Core.Path.{_≡_, refl, ap, _∙_}
+use mathlib.Core.Bool.{Bool, true, false}
 use Prim.Native.Nat.{ℕ, _+_, _<_, _≤_}
 use native.Mathlib.Omega.{arith}
-use lib.ListN.{getD}
-use Rattle.std.proofs.shelf.Tests.{lt-ltb}
+use Rattle.std.proofs.shelf.Tests.{both-ways, eqb-true}
 use Rattle.cells.specs.declared.cell.Cell.{Cell}
 use Rattle.cells.specs.declared.cell.Cell.the-variants.{Reference, Pointer, Functor, Atom, Integer}
-use Rattle.cells.specs.Cells.{inRange}
-use Rattle.tables.specs.Tables.{Tables, used, cellAt, register, choiceAt, noChoice}
-use Rattle.heaps.specs.Lists.{Each}
-use Rattle.heaps.specs.Leads.{Heap, heapOf, LeadsBy, isFunctor}
-use Rattle.heaps.specs.Rules.{WordKeeps, Rules, Fits}
-use Rattle.heaps.specs.LevelLaws.{Stands, Keeps}
-use Rattle.heaps.proofs.EachLaws.{each-at}
+use Rattle.terms.specs.Terms.{named}
+use Rattle.heaps.specs.Leads.{Heap, LeadsBy, refersTo, unbound, isFunctor}
+use Rattle.heaps.specs.Spelling.{labelOf, arityOf}
+use Rattle.heaps.specs.Rules.{WordKeeps}
 
--- a word that may stand in a register leads to cells in use
-pub word-leads : (h : Heap) (n i : ℕ) (w : Cell) → WordKeeps h n w → (j : ℕ) → LeadsBy i w j → j < n
-word-leads h n i (Reference m) k j l = let a = k .0 in let b = l .1 in omega arith
-word-leads h n i (Pointer m) k j l = let a = k .0 in let b = l .1 in omega arith
-word-leads h n i (Functor name arity) k j l = absurd k
-word-leads h n i (Atom a) k j l = absurd (omega arith)
-word-leads h n i (Integer z) k j l = absurd (omega arith)
+-- a test that cannot be true is false
+pub false-of : (b : Bool) → (b ≡ true → ⊥) → b ≡ false
+false-of true f = absurd (f refl)
+false-of false f = refl
 
-module _ (t : Tables) (r : Rules t) where
-  pub cell-leads : (i j : ℕ) → i < used t → LeadsBy i (cellAt t i) j → j < used t
-  cell-leads i j lt l = by (cellAt t i) refl l
-    where
-      by : (c : Cell) → cellAt t i ≡ c → LeadsBy i c j → j < used t
-      by (Reference m) e k = let a = r .references i m lt e .0 in omega arith
-      by (Pointer m) e k = let a = r .pointers i m lt e .0 in omega arith
-      by (Functor name arity) e k = r .arguments i name arity j lt e (omega arith) (omega arith) .0
-      by (Atom a) e k = absurd (omega arith)
-      by (Integer z) e k = absurd (omega arith)
+-- a word that refers to cell n is the reference to it
+pub refers-eq : (n : ℕ) (c : Cell) → refersTo n c ≡ true → c ≡ Reference n
+refers-eq n (Reference m) e = ap Reference (eqb-true m n e)
+refers-eq n (Pointer m) e = absurd (both-ways false refl e)
+refers-eq n (Functor name arity) e = absurd (both-ways false refl e)
+refers-eq n (Atom a) e = absurd (both-ways false refl e)
+refers-eq n (Integer z) e = absurd (both-ways false refl e)
 
-  pub cell-keeps : (i : ℕ) → i < used t → isFunctor (cellAt t i) ≡ false → WordKeeps (heapOf (t .heap)) (used t) (cellAt t i)
-  cell-keeps i lt f = by (cellAt t i) refl
-    where
-      by : (c : Cell) → cellAt t i ≡ c → WordKeeps (heapOf (t .heap)) (used t) c
-      by (Reference m) e = r .references i m lt e
-      by (Pointer m) e = r .pointers i m lt e
-      by (Functor name arity) e = absurd (let z : _≡_ {A = ℕ} 0 1 = cc in omega arith)
-      by (Atom a) e = tt
-      by (Integer z) e = tt
+-- an unbound cell holds the reference to itself
+pub unbound-is : (h : Heap) (n : ℕ) → unbound h n ≡ true → h n ≡ Reference n
+unbound-is h n e = refers-eq n (h n) e
 
-abbrev Ranged : Cell → Type 0
-Ranged c = inRange c ≡ true
+-- a word that keeps rules 1 and 2 is no functor
+pub keeps-word : (h : Heap) (n : ℕ) (c : Cell) → WordKeeps h n c → isFunctor c ≡ false
+keeps-word h n (Reference m) k = refl
+keeps-word h n (Pointer m) k = refl
+keeps-word h n (Functor name arity) k = absurd k
+keeps-word h n (Atom a) k = refl
+keeps-word h n (Integer z) k = refl
 
-pub cell-ranged : (t : Tables) → Fits t → (i : ℕ) → i < used t → inRange (cellAt t i) ≡ true
-cell-ranged t f i lt = each-at Ranged (t .heap) i (Reference i) (let a = f .cells in lt-ltb i 4096 (omega arith)) (f .heap-range)
+-- a word that keeps rules 1 and 2 does so in each heap with the same kinds of cells
+pub keeps-kinds : (h k : Heap) (n : ℕ) → ((m : ℕ) → isFunctor (k m) ≡ isFunctor (h m)) → (c : Cell) → WordKeeps h n c → WordKeeps k n c
+keeps-kinds h k n f (Reference m) p = (p .0, f m ∙ p .1)
+keeps-kinds h k n f (Pointer m) p = (p .0, f m ∙ p .1)
+keeps-kinds h k n f (Functor name arity) p = p
+keeps-kinds h k n f (Atom a) p = p
+keeps-kinds h k n f (Integer z) p = p
 
-pub keeps-register : (t : Tables) (r : ℕ) → Stands t → Keeps t (register t r)
-keeps-register t r s = (each-at (WordKeeps (heapOf (t .heap)) (used t)) (t .registers) r (Atom 0) tt (s .0 .registers .0), each-at Ranged (t .registers) r (Atom 0) refl (s .1 .register-range))
+-- a pointer reads a word that is no functor as atom 0
+pub head-word : (c : Cell) → isFunctor c ≡ false → (labelOf c ≡ named 0) × (arityOf c ≡ 0)
+head-word (Reference n) e = (refl, refl)
+head-word (Pointer n) e = (refl, refl)
+head-word (Functor name arity) e = absurd (both-ways true e refl)
+head-word (Atom a) e = (refl, refl)
+head-word (Integer z) e = (refl, refl)
 
-pub keeps-saved : (t : Tables) (k r : ℕ) → Stands t → Keeps t (getD (choiceAt t k .saved) r (Atom 0))
-keeps-saved t k r s = (
-  each-at Word (choiceAt t k .saved) r (Atom 0) tt (each-at (λ c. Each Word (c .saved)) (t .choices) k noChoice (tt, (tt, (tt, (tt, (tt, (tt, (tt, (tt, tt)))))))) (s .0 .registers .1)),
-  each-at Ranged (choiceAt t k .saved) r (Atom 0) refl (each-at (λ c. Each Ranged (c .saved)) (t .choices) k noChoice (refl, (refl, (refl, (refl, (refl, (refl, (refl, (refl, tt)))))))) (s .1 .saved-range)),
-)
-  where
-    Word : Cell → Type 0
-    Word = WordKeeps (heapOf (t .heap)) (used t)
+-- a word that is no functor leads to the same cells wherever it stands
+pub word-leads : (i k j : ℕ) (c : Cell) → isFunctor c ≡ false → LeadsBy i c j → LeadsBy k c j
+word-leads i k j (Reference n) e l = l
+word-leads i k j (Pointer n) e l = l
+word-leads i k j (Functor name arity) e l = absurd (both-ways true e refl)
+word-leads i k j (Atom a) e l = l
+word-leads i k j (Integer z) e l = l
 
-pub keeps-argument : (t : Tables) (i name arity j : ℕ) → Stands t → i < used t → cellAt t i ≡ Functor name arity → i < j → j ≤ i + arity → Keeps t (cellAt t j)
-keeps-argument t i name arity j s lt e p q = let a = s .0 .arguments i name arity j lt e p q in (cell-keeps t (s .0) j (a .0) (a .1), cell-ranged t (s .1) j (a .0))
+-- a functor leads to its arguments
+pub argument-leads : (i j : ℕ) (c : Cell) → i < j → j ≤ i + arityOf c → LeadsBy i c j
+argument-leads i j (Reference n) p q = absurd (omega arith)
+argument-leads i j (Pointer n) p q = absurd (omega arith)
+argument-leads i j (Functor name arity) p q = (p, omega arith)
+argument-leads i j (Atom a) p q = absurd (omega arith)
+argument-leads i j (Integer z) p q = absurd (omega arith)

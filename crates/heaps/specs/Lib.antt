@@ -5,6 +5,8 @@ pub mod Reached
 pub mod Levels
 pub mod Binding
 pub mod Rules
+pub mod Moving
+pub mod Ends
 pub mod SpellingLaws
 pub mod Ends
 pub mod LevelLaws

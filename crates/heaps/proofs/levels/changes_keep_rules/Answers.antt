@@ -4,7 +4,7 @@ use Rattle.heaps.proofs.RegisterRules.{stands-setRegister}
 use Rattle.heaps.proofs.ChoiceRules.{stands-pushChoice, stands-keepChoices}
 use Rattle.heaps.proofs.NewRules.{stands-newVariable, stands-newStructure}
 use Rattle.heaps.proofs.GrowRules.{keeps-more}
-use Rattle.heaps.proofs.WordLaws.{keeps-register, keeps-saved, keeps-argument}
+use Rattle.heaps.proofs.KeptWords.{keeps-register, keeps-saved, keeps-argument}
 use Rattle.heaps.proofs.levels.changes_keep_rules.Needs as need
 
 pub returns : need.returns
