@@ -15,9 +15,9 @@ trailed (c ∷ cs) x = ltb x (c .heapTop)
 -- cell x takes the word w
 abbrev pub bind : Tables → ℕ → Cell → Tables
 bind t x w =
-    record
-      { heap = set (t .heap) x w
-      ; registers = t .registers
-      ; trail = cond (trailed (t .choices) x) (t .trail ++ (x ∷ [])) (t .trail)
-      ; choices = t .choices
-      }
+    record {
+      heap = set (t .heap) x w;
+      registers = t .registers;
+      trail = cond (trailed (t .choices) x) (t .trail ++ (x ∷ [])) (t .trail);
+      choices = t .choices;
+    }

@@ -18,12 +18,12 @@ seenFrom c cells trail = unbindAll cells (drop (c .trailTop) trail)
 -- back to where the choice point c was opened, with the choice points cs
 abbrev pub backTo : Choice → List Choice → Tables → Tables
 backTo c cs t =
-    record
-      { heap = take (c .heapTop) (seenFrom c (t .heap) (t .trail))
-      ; registers = c .saved
-      ; trail = take (c .trailTop) (t .trail)
-      ; choices = cs
-      }
+    record {
+      heap = take (c .heapTop) (seenFrom c (t .heap) (t .trail));
+      registers = c .saved;
+      trail = take (c .trailTop) (t .trail);
+      choices = cs;
+    }
 
 abbrev pub lastOf : List Choice → Tables → Tables
 lastOf [] t = t

@@ -5,3 +5,4 @@ pub mod Reached
 pub mod Levels
 pub mod Binding
 pub mod Rules
+pub mod ReachedLaws

@@ -1,4 +1,4 @@
-// What heaps mean: where cells lead, what they spell and reach, undoing, and the rules of tables.
-pub fn stands() -> bool {
-    true
-}
+//! What heaps mean: where cells lead, what they spell and reach, undoing, and the rules of tables.
+//! Definitions are in `specs/`, laws in `proofs/`. Each function states laws in its contract, so that callers can cite them.
+
+pub mod reached;
