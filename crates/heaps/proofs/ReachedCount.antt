@@ -2,13 +2,11 @@
 use mathlib.Core.Path.{_≡_, refl, ap, sym, _∙_}
 use mathlib.Core.Bool.{Bool, true, false}
 use mathlib.Core.Logic.{_↔_}
-use Prim.Native.Nat.{ℕ, _+_, _-_, _<_, _≤_}
+use Prim.Native.Nat.{ℕ, _+_, _-_, _≤_}
 use native.Mathlib.Omega.{arith}
-use Rattle.std.proofs.shelf.Tests.{both-ways}
-use Rattle.tables.specs.Tables.{Tables, used}
+use Rattle.tables.specs.Tables.{used}
 use Rattle.marks.specs.Sets.{countBelow}
 use Rattle.heaps.specs.Reached.{Reached, isReached}
-use Rattle.heaps.specs.Rules.{Rules}
 use Rattle.heaps.specs.ReachedLaws.{Count-at-most, Count-of-set}
 use Rattle.heaps.proofs.CountLaws.{count-at-most, count-same, count-past}
 use Rattle.heaps.proofs.ReachedUsed.{reached-used}

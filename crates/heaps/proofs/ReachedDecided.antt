@@ -1,25 +1,26 @@
--- The test for reached cells is right: what it finds is reached, and under the rules it finds all that is reached,
--- since a way that never comes back to a cell has fewer steps than there are cells in use.
-use mathlib.Core.Path.{_≡_, refl, ap, sym, _∙_, subst}
-use mathlib.Core.Bool.{Bool, true, false, _||_}
-use mathlib.Core.Logic.{_↔_, ⊎-elim}
+-- Under the rules the test for reached cells is right: it also finds all that is reached,
+-- since a walk that never comes back to a cell has fewer steps than there are cells in use.
+use mathlib.Core.Path.{_≡_, refl, ap, _∙_}
+use mathlib.Core.Bool.{Bool, true, false}
+use mathlib.Core.Logic.{⊎-elim}
 use mathlib.Core.List.{List, [], _∷_}
 use Prim.Native.Nat.{ℕ, zero, suc, _+_, _<_, _≤_}
 use native.Mathlib.Omega.{arith}
 use lib.Dec.{eqb}
 use lib.ListN.{length}
-use Rattle.std.proofs.shelf.Tests.{both-ways, eqb-true, eq-eqb, cases-eq, cases-bool, or-cases, or-left, or-right}
+use Rattle.std.proofs.shelf.Tests.{eq-eqb, cases-eq, or-left, or-right}
 use Rattle.cells.specs.declared.cell.Cell.{Cell}
-use Rattle.cells.specs.declared.cell.Cell.the-variants.{Reference, Pointer, Functor, Atom, Integer}
 use Rattle.tables.specs.Tables.{Tables, used}
 use Rattle.heaps.specs.Lists.{Each, Among, here, further, isIn, Different}
-use Rattle.heaps.specs.Leads.{Heap, heapOf, first, many, LeadsBy, refersTo, unbound, Leads, Way, step, more, Acyclic}
-use Rattle.heaps.specs.Reached.{Reaches, direct, onward, roots, anyFrom, within, reachedBy}
+use Rattle.heaps.specs.Leads.{Heap, heapOf, first, many, LeadsBy, Way, step, Acyclic}
+use Rattle.heaps.specs.Reached.{Reaches, roots, anyFrom, within, reachedBy}
 use Rattle.heaps.specs.Rules.{WordKeeps, Rules}
 use Rattle.heaps.specs.ReachedLaws.{WordsKeep, Words-decided, Reached-decided}
 use Rattle.heaps.proofs.MemberLaws.{each-map, each-among, each-in}
 use Rattle.heaps.proofs.Pigeonhole.{pigeonhole}
+use Rattle.heaps.proofs.Walks.{Walk, stay, go, way-more, reached-walk}
 use Rattle.heaps.proofs.ReachedUsed.{rules-inside, word-inside, roots-keep}
+use Rattle.heaps.proofs.FoundReached.{found-reached}
 
 any-from : (n m : ℕ) (p : ℕ → Bool) (j : ℕ) → n ≤ j → j < n + m → p j ≡ true → anyFrom n m p ≡ true
 any-from n zero p j a b e = absurd (omega arith)
@@ -28,65 +29,6 @@ any-from n (suc m) p j a b e =
     (λ q. or-left (p n) (anyFrom (suc n) m p) (ap p q ∙ e))
     (λ q. or-right (p n) (anyFrom (suc n) m p) (any-from (suc n) m p j (omega arith) (omega arith) e))
     (cases-eq n j)
-
-any-found : (n m : ℕ) (p : ℕ → Bool) → anyFrom n m p ≡ true → (j : ℕ) × (n ≤ j) × (j < n + m) × (p j ≡ true)
-any-found n zero p e = absurd (both-ways false refl e)
-any-found n (suc m) p e =
-    ⊎-elim
-    (λ q. (n, omega arith, omega arith, q))
-    (λ q. let f = any-found (suc n) m p q in let a = f .1 in let b = f .2 in (f .0, omega arith, omega arith, f .3))
-    (or-cases (p n) (anyFrom (suc n) m p) e)
-
--- What the test finds is reached.
-module _ (h : Heap) (ws : List Cell) where
-  within-reached : (g i k : ℕ) → Reaches h ws i → within g h i k ≡ true → Reaches h ws k
-  within-reached zero i k r e = subst (Reaches h ws) (eqb-true i k e) r
-  within-reached (suc g) i k r e =
-      ⊎-elim
-      (λ q. subst (Reaches h ws) (eqb-true i k q) r)
-      (λ q. let f = any-found (first i (h i)) (many (h i)) (λ j. within g h j k) q in within-reached g (f .0) k (onward r (f .1, f .2)) (f .3))
-      (or-cases (eqb i k) (anyFrom (first i (h i)) (many (h i)) (λ j. within g h j k)) e)
-
-  some-reached : (g k : ℕ) (vs : List Cell) → ((w : Cell) → Among w vs → Among w ws) → reachedBy g h vs k ≡ true → Reaches h ws k
-  some-reached g k [] sub e = absurd (both-ways false refl e)
-  some-reached g k (v ∷ vs) sub e =
-      ⊎-elim
-      (λ q. let f = any-found (first 0 v) (many v) (λ j. within g h j k) q in within-reached g (f .0) k (direct (sub v here) (f .1, f .2)) (f .3))
-      (λ q. some-reached g k vs (λ w m. sub w (further m)) q)
-      (or-cases (anyFrom (first 0 v) (many v) (λ j. within g h j k)) (reachedBy g h vs k) e)
-
-  pub found-reached : (g k : ℕ) → reachedBy g h ws k ≡ true → Reaches h ws k
-  found-reached g k e = some-reached g k ws (λ w m. m) e
-
--- none, one or more steps, from the first on
-data Walk (h : Heap) : ℕ → ℕ → Type 0 where
-  stay : {i : ℕ} → Walk h i i
-  go : {i j k : ℕ} → Leads h i j → Walk h j k → Walk h i k
-
-walk-more : (h : Heap) {i j k : ℕ} → Walk h i j → Leads h j k → Walk h i k
-walk-more h stay l = go l stay
-walk-more h (go m w) l = go m (walk-more h w l)
-
-way-more : (h : Heap) {i j k : ℕ} → Way h i j → Leads h j k → Way h i k
-way-more h (step m) l = more m (step l)
-way-more h (more m w) l = more m (way-more h w l)
-
--- an unbound variable leads to itself only
-unbound-leads : (i j : ℕ) (c : Cell) → refersTo i c ≡ true → LeadsBy i c j → i ≡ j
-unbound-leads i j (Reference m) e l = let q = eqb-true m i e in let a = l .0 in let b = l .1 in omega arith
-unbound-leads i j (Pointer m) e l = absurd (both-ways false refl e)
-unbound-leads i j (Functor name arity) e l = absurd (both-ways false refl e)
-unbound-leads i j (Atom n) e l = absurd (both-ways false refl e)
-unbound-leads i j (Integer z) e l = absurd (both-ways false refl e)
-
-walk-on : (h : Heap) {i j k : ℕ} → Walk h i j → LeadsBy j (h j) k → Walk h i k
-walk-on h {i} {j} {k} w l =
-    ⊎-elim (λ e. subst (Walk h i) (unbound-leads j k (h j) e l) w) (λ e. walk-more h w (l, e)) (cases-bool (unbound h j))
-
--- each reached cell is where a walk ends that begins where a word leads
-reached-walk : (h : Heap) (ws : List Cell) (k : ℕ) → Reaches h ws k → (w : Cell) × (j : ℕ) × Among w ws × LeadsBy 0 w j × Walk h j k
-reached-walk h ws k (direct {w = w} m l) = (w, k, m, l, stay)
-reached-walk h ws k (onward {i = i} r l) = let f = reached-walk h ws i r in (f .0, f .1, f .2, f .3, walk-on h (f .4) l)
 
 found-word : (g : ℕ) (h : Heap) (k j : ℕ) {w : Cell} {ws : List Cell} → Among w ws → LeadsBy 0 w j → within g h j k ≡ true → reachedBy g h ws k ≡ true
 found-word g h k j {w} (here {xs = ws}) l e =

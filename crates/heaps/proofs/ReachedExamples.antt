@@ -1,12 +1,10 @@
 -- Small tables, and what is reached in them.
 use mathlib.Core.Path.{_≡_, refl}
 use mathlib.Core.Bool.{true, false}
-use mathlib.Core.List.{List, [], _∷_}
-use Prim.Native.Nat.{ℕ, zero, suc}
+use mathlib.Core.List.{[], _∷_}
 use lib.IntN.{pos}
-use Rattle.cells.specs.declared.cell.Cell.{Cell}
 use Rattle.cells.specs.declared.cell.Cell.the-variants.{Reference, Pointer, Functor, Atom, Integer}
-use Rattle.tables.specs.Tables.{Choice, Tables, setUp, withHeap, setRegister, pushCell, pushChoice}
+use Rattle.tables.specs.Tables.{Tables, setUp, withHeap, setRegister, pushCell, pushChoice}
 use Rattle.marks.specs.Sets.{countBelow}
 use Rattle.heaps.specs.Reached.{isReached, reachedCount}
 use Rattle.heaps.specs.Levels.{last}

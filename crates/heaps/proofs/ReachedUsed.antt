@@ -8,7 +8,7 @@ use Rattle.cells.specs.declared.cell.Cell.the-variants.{Reference, Pointer, Fun
 use Rattle.tables.specs.Tables.{Choice, Tables, used}
 use Rattle.heaps.specs.Lists.{Each}
 use Rattle.heaps.specs.Leads.{Heap, heapOf, LeadsBy}
-use Rattle.heaps.specs.Reached.{Reaches, savedWords, roots}
+use Rattle.heaps.specs.Reached.{savedWords, roots}
 use Rattle.heaps.specs.Rules.{WordKeeps, Rules}
 use Rattle.heaps.specs.ReachedLaws.{Roots-keep, Words-reach-used, Reached-used}
 use Rattle.heaps.proofs.MemberLaws.{each-joined, each-among}

@@ -1,11 +1,10 @@
 -- What words reach is the least set that holds where they lead; so it grows with the words and depends on no other cells.
 use mathlib.Core.Path.{_≡_, sym, subst}
 use mathlib.Core.Bool.{true}
-use mathlib.Core.Logic.{_⊎_, inl, inr, _↔_, ⊎-elim}
+use mathlib.Core.Logic.{_⊎_, inl, inr, ⊎-elim}
 use mathlib.Core.List.{List, _++_}
 use Prim.Native.Nat.{ℕ}
 use Rattle.cells.specs.declared.cell.Cell.{Cell}
-use Rattle.heaps.specs.Lists.{Among}
 use Rattle.heaps.specs.Leads.{Heap, LeadsBy}
 use Rattle.heaps.specs.Reached.{Reaches, direct, onward}
 use Rattle.heaps.specs.ReachedLaws.{Holds, Reaches-least, Reaches-more, Reaches-joined, Reaches-frame}

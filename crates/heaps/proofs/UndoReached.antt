@@ -1,10 +1,10 @@
 -- Undoing makes cells unbound and gives up roots, so what is reached afterwards was reached before.
 use mathlib.Core.Path.{_≡_, refl, ap, sym, _∙_, subst}
 use mathlib.Core.Logic.{_⊎_, inl, inr, ⊎-elim}
-use mathlib.Core.List.{List, [], _∷_, _++_}
-use Prim.Native.Nat.{ℕ, zero, suc, _<_, _≤_}
+use mathlib.Core.List.{List, [], _∷_}
+use Prim.Native.Nat.{ℕ, zero, suc}
 use native.Mathlib.Omega.{arith}
-use lib.ListN.{length, getD, set, take, drop, length-take, List·getD-eq-default}
+use lib.ListN.{length, set, take, drop, length-take, List·getD-eq-default}
 use lib.Seq.{getD-set-same, getD-set-other, set-out, getD-take}
 use Rattle.std.proofs.shelf.Tests.{cases-eq, cases-lt}
 use Rattle.cells.specs.declared.cell.Cell.{Cell}
@@ -13,7 +13,7 @@ use Rattle.tables.specs.Tables.{Choice, Tables}
 use Rattle.heaps.specs.Lists.{Among}
 use Rattle.heaps.specs.Leads.{Heap, heapOf, LeadsBy}
 use Rattle.heaps.specs.Reached.{Reaches, direct, onward, savedWords, roots, Reached}
-use Rattle.heaps.specs.Levels.{unbindAll, seenFrom, backTo, lastOf, last, undo}
+use Rattle.heaps.specs.Levels.{unbindAll, seenFrom, backTo, lastOf, last}
 use Rattle.heaps.specs.ReachedLaws.{SomeUnbound, Unbound-reaches, Last-reached, Undo-reached}
 use Rattle.heaps.proofs.MemberLaws.{among-right}
 use Rattle.heaps.proofs.ReachesLaws.{reaches-in}
