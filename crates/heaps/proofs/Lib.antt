@@ -41,3 +41,11 @@ pub mod ShortenLaws
 pub mod EndLaws
 pub mod MovedSound
 mod SpellingExamples
+pub mod ReachesLaws
+pub mod ReachedUsed
+pub mod FoundReached
+pub mod Walks
+pub mod ReachedDecided
+pub mod ReachedCount
+pub mod UndoReached
+mod ReachedExamples

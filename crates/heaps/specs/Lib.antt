@@ -8,7 +8,7 @@ pub mod Rules
 pub mod Moving
 pub mod Ends
 pub mod SpellingLaws
-pub mod Ends
 pub mod LevelLaws
 pub mod RuleTests
 pub mod RuleTestLaws
+pub mod ReachedLaws

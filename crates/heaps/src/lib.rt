@@ -2,6 +2,7 @@
 //! Definitions are in `specs/`, laws in `proofs/`. Each function states laws in its contract, so that callers can cite them.
 
 pub mod levels;
+pub mod reached;
 pub mod rule;
 pub mod rule_tests;
 pub mod spelling;
