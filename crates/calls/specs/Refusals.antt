@@ -1,0 +1,80 @@
+-- When a call is refused, and with what. The tests of a call run in the order of the refusals' numbers, and the first
+-- that hits is answered. The store and the tree machine share these tests, but for want of cells, which only a store knows.
+use mathlib.Core.Bool.{Bool, true, false, cond, not, _&&_, _||_}
+use mathlib.Core.List.{List, [], _∷_}
+use mathlib.Core.Option.{Option, some, none}
+use Prim.Native.Nat.{ℕ, suc}
+use lib.Dec.{eqb, leb, ltb}
+use Rattle.cells.specs.declared.cell.Cell.the-variants.{Functor, Atom, Integer}
+use Rattle.cells.specs.declared.refusal.Refusal.{Refusal}
+use Rattle.cells.specs.declared.refusal.Refusal.the-variants.{HalfMade, WrongSlip, NoRegister, OutOfRange, WrongCount, NoArgument, ChoicesFull, NoChoice}
+use Rattle.cells.specs.Cells.{inRange}
+use Rattle.calls.specs.declared.Draft.{Draft}
+use Rattle.calls.specs.declared.Call.{Call}
+use Rattle.calls.specs.declared.Call.the-variants.{Var, Atom as SetAtom, Int, Move, Look, Arg, Same, Unify, Open, Retry, Last, Cut, Start, Put, Hole, Done, Void, Collect, Usage}
+
+abbrev pub firstHit : List (Refusal × Bool) → Option Refusal
+firstHit [] = none
+firstHit (x ∷ xs) = cond (x .1) (some (x .0)) (firstHit xs)
+
+abbrev pub isSome : {A : Type 0} → Option A → Bool
+isSome none = false
+isSome (some a) = true
+
+-- a register above 7
+abbrev pub noRegister : ℕ → Bool
+noRegister r = ltb 7 r
+
+-- Slips are compared by functor and number of missing arguments.
+abbrev pub sameDraft : Draft → Draft → Bool
+sameDraft a b = eqb (a .name) (b .name) && (eqb (a .arity) (b .arity) && eqb (a .missing) (b .missing))
+
+-- the slip differs from the half-made structure, or there is none
+abbrev pub wrongSlip : Option Draft → Draft → Bool
+wrongSlip none slip = true
+wrongSlip (some half) slip = not (sameDraft half slip)
+
+-- half: what a slip of the half-made structure would say, if there is one; points: the number of choice points;
+-- lacks s i: Xs is no structure, or has no argument i
+abbrev pub refusal : Option Draft → ℕ → (ℕ → ℕ → Bool) → Call → Option Refusal
+refusal half points lacks (Var d) = firstHit ((HalfMade, isSome half) ∷ (NoRegister, noRegister d) ∷ [])
+refusal half points lacks (SetAtom d n) = firstHit ((HalfMade, isSome half) ∷ (NoRegister, noRegister d) ∷ (OutOfRange, not (inRange (Atom n))) ∷ [])
+refusal half points lacks (Int d z) = firstHit ((HalfMade, isSome half) ∷ (NoRegister, noRegister d) ∷ (OutOfRange, not (inRange (Integer z))) ∷ [])
+refusal half points lacks (Move d s) = firstHit ((HalfMade, isSome half) ∷ (NoRegister, noRegister d || noRegister s) ∷ [])
+refusal half points lacks (Look s) = firstHit ((HalfMade, isSome half) ∷ (NoRegister, noRegister s) ∷ [])
+refusal half points lacks (Arg d s i) = firstHit ((HalfMade, isSome half) ∷ (NoRegister, noRegister d || noRegister s) ∷ (NoArgument, lacks s i) ∷ [])
+refusal half points lacks (Same s t) = firstHit ((HalfMade, isSome half) ∷ (NoRegister, noRegister s || noRegister t) ∷ [])
+refusal half points lacks (Unify s t) = firstHit ((HalfMade, isSome half) ∷ (NoRegister, noRegister s || noRegister t) ∷ [])
+refusal half points lacks Open = firstHit ((HalfMade, isSome half) ∷ (ChoicesFull, leb 64 points) ∷ [])
+refusal half points lacks Retry = firstHit ((HalfMade, isSome half) ∷ (NoChoice, eqb points 0) ∷ [])
+refusal half points lacks Last = firstHit ((HalfMade, isSome half) ∷ (NoChoice, eqb points 0) ∷ [])
+refusal half points lacks (Cut k) = firstHit ((HalfMade, isSome half) ∷ (NoChoice, ltb points k) ∷ [])
+refusal half points lacks (Start name arity) = firstHit ((HalfMade, isSome half) ∷ (OutOfRange, not (inRange (Functor name arity))) ∷ [])
+refusal half points lacks (Put slip s) = firstHit ((WrongSlip, wrongSlip half slip) ∷ (NoRegister, noRegister s) ∷ (WrongCount, eqb (slip .missing) 0) ∷ [])
+refusal half points lacks (Hole slip) = firstHit ((WrongSlip, wrongSlip half slip) ∷ (WrongCount, eqb (slip .missing) 0) ∷ [])
+refusal half points lacks (Done slip d) = firstHit ((WrongSlip, wrongSlip half slip) ∷ (NoRegister, noRegister d) ∷ (WrongCount, ltb 0 (slip .missing)) ∷ [])
+refusal half points lacks (Void slip) = firstHit ((WrongSlip, wrongSlip half slip) ∷ [])
+refusal half points lacks Collect = firstHit ((HalfMade, isSome half) ∷ [])
+refusal half points lacks Usage = none
+
+-- the cells that a call takes
+abbrev pub cellsNeeded : Call → ℕ
+cellsNeeded (Var d) = 1
+cellsNeeded (SetAtom d n) = 0
+cellsNeeded (Int d z) = 0
+cellsNeeded (Move d s) = 0
+cellsNeeded (Look s) = 0
+cellsNeeded (Arg d s i) = 0
+cellsNeeded (Same s t) = 0
+cellsNeeded (Unify s t) = 0
+cellsNeeded Open = 0
+cellsNeeded Retry = 0
+cellsNeeded Last = 0
+cellsNeeded (Cut k) = 0
+cellsNeeded (Start name arity) = suc arity
+cellsNeeded (Put slip s) = 0
+cellsNeeded (Hole slip) = 0
+cellsNeeded (Done slip d) = 0
+cellsNeeded (Void slip) = 0
+cellsNeeded Collect = 0
+cellsNeeded Usage = 0

@@ -1,0 +1,14 @@
+pub mod Lists
+pub mod Leads
+pub mod Spelling
+pub mod Reached
+pub mod Levels
+pub mod Binding
+pub mod Rules
+pub mod Moving
+pub mod Ends
+pub mod SpellingLaws
+pub mod LevelLaws
+pub mod RuleTests
+pub mod RuleTestLaws
+pub mod ReachedLaws
