@@ -1,14 +1,12 @@
 -- From a closed set, following words to the end marks all that they reach and no more.
-use mathlib.Core.Path.{_≡_, refl, sym, ap, subst, _∙_}
-use mathlib.Core.Bool.{Bool, true, false}
-use mathlib.Core.List.{List, [], _∷_, _++_}
+use mathlib.Core.Path.{_≡_}
+use mathlib.Core.Bool.{Bool, true}
+use mathlib.Core.List.{List, _++_}
 use mathlib.Core.Logic.{_⊎_, inl, inr, ⊎-elim}
-use Prim.Native.Nat.{ℕ, suc, _+_, _<_, _≤_}
-use native.Mathlib.Omega.{arith}
-use lib.ListN.{length, length-append}
+use Prim.Native.Nat.{ℕ, _≤_}
+use lib.ListN.{length}
 use Rattle.cells.specs.declared.cell.Cell.{Cell}
-use Rattle.heaps.specs.Lists.{Among, here, further}
-use Rattle.heaps.specs.Leads.{Heap, LeadsBy}
+use Rattle.heaps.specs.Leads.{Heap}
 use Rattle.heaps.specs.Reached.{Reaches, direct, onward}
 use Rattle.marking.specs.Marking.{ClosedUnder, MarkedAll}
 use Rattle.marking.specs.Walks.{Noted, From, held, led, Grown}

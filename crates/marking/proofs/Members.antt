@@ -1,10 +1,7 @@
 -- Membership in a list that is made from others.
-use mathlib.Core.Path.{_≡_, refl, sym, subst}
+use mathlib.Core.Path.{_≡_, refl}
 use mathlib.Core.List.{List, [], _∷_, _++_}
 use mathlib.Core.Logic.{_⊎_, inl, inr, ⊎-elim}
-use Prim.Native.Nat.{ℕ, zero, suc, _<_}
-use native.Mathlib.Omega.{arith}
-use lib.ListN.{length, getD}
 use Rattle.heaps.specs.Lists.{Among, here, further}
 
 module _ {A : Type 0} {x : A} where

@@ -8,7 +8,7 @@ use native.Mathlib.Omega.{arith}
 use lib.ListN.{length, length-append}
 use Rattle.std.proofs.shelf.Tests.{cases-eq}
 use Rattle.marks.specs.Sets.{withCell}
-use Rattle.heaps.specs.Lists.{Among, here, further}
+use Rattle.heaps.specs.Lists.{Among, here}
 use Rattle.marking.specs.Walks.{total, Noted}
 use Rattle.marking.proofs.Counts.{with-here, with-other, count-with}
 use Rattle.marking.proofs.Members.{among-left, among-right, among-either, among-one}

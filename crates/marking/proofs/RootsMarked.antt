@@ -1,8 +1,8 @@
 -- The roots, choice point by choice point: from the empty set, what marking them all gives is exactly the reached cells.
-use mathlib.Core.Path.{_≡_, refl, sym, ap, subst, _∙_}
-use mathlib.Core.Bool.{Bool, true, false}
+use mathlib.Core.Path.{_≡_, sym, ap, subst, _∙_}
+use mathlib.Core.Bool.{Bool}
 use mathlib.Core.List.{List, [], _∷_, _++_, append-nil, append-assoc}
-use mathlib.Core.Logic.{_⊎_, inl, inr, ⊎-elim}
+use mathlib.Core.Logic.{inl, ⊎-elim}
 use Prim.Native.Nat.{ℕ, zero, suc, _+_, _<_, _≤_}
 use native.Mathlib.Omega.{arith}
 use lib.ListN.{length, getD, take}
@@ -11,7 +11,7 @@ use Rattle.std.proofs.shelf.Tests.{false≢true}
 use Rattle.cells.specs.declared.cell.Cell.{Cell}
 use Rattle.tables.specs.Tables.{Choice, Tables, noChoice, choiceAt}
 use Rattle.marks.specs.Sets.{none}
-use Rattle.heaps.specs.Lists.{Among, here, further}
+use Rattle.heaps.specs.Lists.{Among}
 use Rattle.heaps.specs.Leads.{Heap, heapOf}
 use Rattle.heaps.specs.Reached.{Reaches, direct, onward, savedWords, roots}
 use Rattle.marking.specs.Marking.{ClosedUnder, WordsLead, MarkedAll, MarksReached}

@@ -1,13 +1,13 @@
 -- A marking that is under way stays so when one waiting cell is looked at, and is closed when no cell waits.
-use mathlib.Core.Path.{_≡_, refl, sym, ap, subst, _∙_}
-use mathlib.Core.Bool.{Bool, true, false}
+use mathlib.Core.Path.{_≡_, sym, ap, subst, _∙_}
+use mathlib.Core.Bool.{Bool, true}
 use mathlib.Core.List.{List, [], _∷_, _++_}
 use mathlib.Core.Logic.{_⊎_, inl, inr, ⊎-elim}
-use Prim.Native.Nat.{ℕ, suc, _+_, _<_, _≤_}
+use Prim.Native.Nat.{ℕ, suc, _+_, _<_}
 use native.Mathlib.Omega.{arith}
 use lib.ListN.{length, length-append}
 use Rattle.cells.specs.declared.cell.Cell.{Cell}
-use Rattle.heaps.specs.Lists.{Among, here, further}
+use Rattle.heaps.specs.Lists.{Among, here}
 use Rattle.heaps.specs.Leads.{Heap, LeadsBy}
 use Rattle.marking.specs.Marking.{ClosedUnder, CellsLead}
 use Rattle.marking.specs.Walks.{total, Noted, Underway, From, held, led, Grown}

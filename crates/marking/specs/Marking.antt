@@ -7,7 +7,7 @@ use Prim.Native.Nat.{ℕ, _<_}
 use Rattle.cells.specs.declared.cell.Cell.{Cell}
 use Rattle.tables.specs.Tables.{Tables}
 use Rattle.heaps.specs.Lists.{Among}
-use Rattle.heaps.specs.Leads.{Heap, heapOf, LeadsBy}
+use Rattle.heaps.specs.Leads.{Heap, LeadsBy}
 use Rattle.heaps.specs.Reached.{Reaches, Reached}
 
 -- the members of the set lead only to members

@@ -28,7 +28,7 @@ pub record Noted (P : ℕ → Type 0) (s : ℕ → Bool) (p : List ℕ) (t : ℕ
   pub all : (k : ℕ) → P k → t k ≡ true
   pub sum : length q + total s ≡ length p + total t
 
--- members lead to members, unless they wait; what waits is a member, and no cell waits twice
+-- Members lead to members, unless they wait. What waits is a member, and no more cells wait than there are members.
 pub record Underway (h : Heap) (s : ℕ → Bool) (p : List ℕ) : Type 0 where
   pub leads : (i j : ℕ) → s i ≡ true → LeadsBy i (h i) j → (s j ≡ true) ⊎ Among i p
   pub members : (i : ℕ) → Among i p → s i ≡ true

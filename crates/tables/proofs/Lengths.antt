@@ -1,10 +1,10 @@
 -- How long the lists are that a memory stands for: eight registers, eight saved ones in each choice point, and no more cells than it has.
-use mathlib.Core.Path.{_≡_, refl, sym, ap, _∙_}
-use mathlib.Core.List.{List, map, reverse}
+use mathlib.Core.Path.{_≡_, refl, ap, _∙_}
+use mathlib.Core.List.{map, reverse}
 use mathlib.Core.Logic.{⊎-elim}
 use Prim.Native.Nat.{ℕ, _-_, _<_, _≤_}
 use native.Mathlib.Omega.{arith}
-use lib.ListN.{length, getD, take, replicate}
+use lib.ListN.{length, getD, replicate}
 use Rattle.std.proofs.shelf.Lists.{length-map, length-take, getD-default, getD-past}
 use Rattle.std.proofs.shelf.Tests.{cases-lt}
 use Rattle.cells.specs.Cells.{cellOf}

@@ -1,12 +1,11 @@
 use mathlib.Core.Path.{_≡_, refl}
-use mathlib.Core.Bool.{Bool}
 use mathlib.Core.List.{List, [], _∷_}
-use Prim.Native.Nat.{ℕ, _≤_}
+use Prim.Native.Nat.{_≤_}
 use native.Mathlib.Omega.{arith}
 use lib.ListN.{length}
 use Rattle.tables.specs.Views.{tablesOf}
-use Rattle.heaps.specs.Leads.{Heap, heapOf}
-use Rattle.marking.specs.Walks.{waiting, total}
+use Rattle.heaps.specs.Leads.{heapOf}
+use Rattle.marking.specs.Walks.{waiting}
 use Rattle.marking.proofs.Counts.{count-le}
 use Rattle.marking.proofs.Walks.{grown-none, grown-then, closed-done}
 use Rattle.marking.proofs.walk.finish.Needs as need
