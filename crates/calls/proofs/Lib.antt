@@ -1,0 +1,2 @@
+pub mod CellSet
+pub mod WholeProp
