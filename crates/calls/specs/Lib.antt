@@ -2,3 +2,4 @@ pub mod Refusals
 pub mod Unifying
 pub mod Steps
 pub mod Whole
+pub mod KeepLaws
