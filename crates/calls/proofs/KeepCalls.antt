@@ -32,9 +32,9 @@ use Rattle.calls.specs.declared.Answer.{Answer}
 use Rattle.calls.specs.Unifying.{unifyWords}
 use Rattle.calls.specs.Steps.{Half, State, argumentOf, argument, setArgument, ifUnified, nextArgument, act}
 use Rattle.calls.specs.Whole.{Whole}
-use Rattle.calls.specs.KeepLaws.{Unify-keeps}
+use Rattle.calls.proofs.KeepUnify.{Unify-keeps}
 use Rattle.calls.proofs.KeepHalf.{Parts, half-stands, half-tables, half-written, functor-from}
-use Rattle.calls.proofs.KeepSteps.{Accepted, half-none, none-stands, none-whole, Slipped, half-some, some-stands, onHalf-some}
+use Rattle.calls.proofs.KeepSteps.{Accepted, half-none, none-stands, none-whole, Slipped, half-some, some-stands, onHalf-some, missing-some}
 
 -- An accepted call leaves a whole state whole.
 abbrev pub Keeping : Call → Type 0
@@ -118,10 +118,6 @@ keep-start name arity left s w a = half-stands (s .tables) name arity [] arity (
   stands = none-stands s (half-none s (a .0 .0)) w;
   keeps = tt;
 })
-
--- an argument is missing, since the slip says so
-missing-some : (s : State) (slip : Draft) (x : Slipped s slip) → eqb (slip .missing) 0 ≡ false → 0 < x .half .missing
-missing-some s slip x e = let a = eqb-false (slip .missing) 0 e in let b = x .missing in omega arith
 
 keep-put : (slip : Draft) (r : ℕ) → Keeping (Put slip r)
 keep-put slip r left s w a = let x = half-some s slip (a .0 .0) in let q = a .0 .1 .1 in let o = some-stands s (x .half) (x .is) w in

@@ -3,10 +3,11 @@ use mathlib.Core.Path.{_≡_, refl, ap, _∙_, sym, subst}
 use mathlib.Core.Bool.{Bool, true, false, cond, not}
 use mathlib.Core.List.{List, [], _∷_}
 use mathlib.Core.Option.{Option, some, none}
-use Prim.Native.Nat.{ℕ, _+_, _≤_}
+use Prim.Native.Nat.{ℕ, _+_, _<_, _≤_}
+use native.Mathlib.Omega.{arith}
 use lib.Dec.{eqb, ltb}
 use lib.ListN.{length}
-use Rattle.std.proofs.shelf.Tests.{both-ways, not-false, ltb-false, eqb-true, and-parts}
+use Rattle.std.proofs.shelf.Tests.{both-ways, not-false, ltb-false, eqb-true, eqb-false, and-parts}
 use Rattle.cells.specs.declared.refusal.Refusal.{Refusal}
 use Rattle.tables.specs.Tables.{Tables, used}
 use Rattle.heaps.specs.Lists.{Each}
@@ -23,9 +24,12 @@ use Rattle.calls.specs.Whole.{HalfStands, WholeWith, Whole}
 abbrev pub Missed : List (Refusal × Bool) → Type 0
 Missed tests = Each (λ x. x .1 ≡ false) tests
 
+abbrev testsOf : Call → State → List (Refusal × Bool)
+testsOf c s = tests (draft s) (length (s .tables .choices)) (lacksArgument (s .tables)) c
+
 -- The call c is accepted.
 abbrev pub Accepted : Call → State → Type 0
-Accepted c s = Missed (tests (draft s) (length (s .tables .choices)) (lacksArgument (s .tables)) c) × (used (s .tables) + cellsNeeded c ≤ 4096)
+Accepted c s = Missed (testsOf c s) × (used (s .tables) + cellsNeeded c ≤ 4096)
 
 missed : (xs : List (Refusal × Bool)) → firstHit xs ≡ none → Missed xs
 missed [] e = tt
@@ -37,12 +41,22 @@ missed (x ∷ xs) e = by (x .1) refl e (missed xs)
 
 -- What holds of the state, and of what an accepted call makes of it, holds of what the call makes of it.
 pub step-either : (P : State → Type 0) (c : Call) (left : Tables) (s : State) → P s → (Accepted c s → P (act c left s .1)) → P (step c left s .1)
-step-either P c left s p f = by (refusalOf c s) (ltb 4096 (used (s .tables) + cellsNeeded c)) (λ a b. f (missed (tests (draft s) (length (s .tables .choices)) (lacksArgument (s .tables)) c) a, ltb-false 4096 (used (s .tables) + cellsNeeded c) b))
+step-either P c left s p f = by (refusalOf c s) (ltb 4096 (used (s .tables) + cellsNeeded c)) (λ a b. f (missed (testsOf c s) a, ltb-false 4096 (used (s .tables) + cellsNeeded c) b))
   where
     by : (o : Option Refusal) (b : Bool) → (o ≡ none → b ≡ false → P (act c left s .1)) → P (unless o b s (act c left s) .1)
     by (some why) b g = p
     by none true g = p
     by none false g = g refl refl
+
+-- A call that answers nothing was accepted.
+pub step-accepted : (c : Call) (left : Tables) (s : State) → step c left s .0 ≡ Nothing → Accepted c s × (step c left s ≡ act c left s)
+step-accepted c left s e = by (refusalOf c s) (ltb 4096 (used (s .tables) + cellsNeeded c)) refl refl e
+  where
+    by : (o : Option Refusal) (b : Bool) → refusalOf c s ≡ o → ltb 4096 (used (s .tables) + cellsNeeded c) ≡ b → unless o b s (act c left s) .0 ≡ Nothing
+        → Accepted c s × (unless o b s (act c left s) ≡ act c left s)
+    by (some why) b p q r = absurd (let z : _≡_ {A = ℕ} 0 1 = cc in omega arith)
+    by none true p q r = absurd (let z : _≡_ {A = ℕ} 0 1 = cc in omega arith)
+    by none false p q r = ((missed (testsOf c s) p, ltb-false 4096 (used (s .tables) + cellsNeeded c) q), refl)
 
 -- No structure is half made.
 
@@ -83,3 +97,7 @@ some-stands s h e w = subst (WholeWith (s .tables)) e w
 
 pub onHalf-some : (s : State) (h : Half) (f : Half → Answer × State) → s .half ≡ some h → onHalf s f ≡ f h
 onHalf-some s h f e = ap (λ (o : Option Half). elim o [ none ↦ (Nothing, s) | some k ↦ f k ]) e
+
+-- an argument is missing, since the slip says so
+pub missing-some : (s : State) (slip : Draft) (x : Slipped s slip) → eqb (slip .missing) 0 ≡ false → 0 < x .half .missing
+missing-some s slip x e = let a = eqb-false (slip .missing) 0 e in let b = x .missing in omega arith

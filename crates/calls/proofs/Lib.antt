@@ -2,4 +2,9 @@ pub mod CellSet
 pub mod WholeProp
 pub mod KeepHalf
 pub mod KeepSteps
+pub mod KeepUnify
 pub mod KeepCalls
+pub mod KeepLevels
+pub mod KeepRefused
+pub mod KeepSettled
+pub mod KeepLaws

@@ -5,16 +5,14 @@ use mathlib.Core.List.{List, [], _∷_}
 use mathlib.Core.Option.{some, none}
 use Prim.Native.Nat.{ℕ, _+_, _-_, _<_}
 use lib.ListN.{length}
-use Rattle.cells.specs.declared.cell.Cell.{Cell}
 use Rattle.cells.specs.declared.refusal.Refusal.{Refusal}
 use Rattle.tables.specs.Tables.{Tables, setUp, pushChoice}
 use Rattle.heaps.specs.Lists.{Each}
 use Rattle.heaps.specs.Levels.{last, undo}
-use Rattle.heaps.specs.LevelLaws.{Stands, Keeps, HasChoice}
+use Rattle.heaps.specs.LevelLaws.{Stands, HasChoice}
 use Rattle.calls.specs.declared.Call.{Call}
 use Rattle.calls.specs.declared.Call.the-variants.{Var, Atom as SetAtom, Int, Move, Look, Arg, Same, Unify, Open, Retry, Last, Cut, Start, Put, Hole, Done, Void, Collect, Usage}
 use Rattle.calls.specs.declared.Answer.the-variants.{Nothing, Refused}
-use Rattle.calls.specs.Unifying.{unifyWords}
 use Rattle.calls.specs.Steps.{State, step}
 use Rattle.calls.specs.Whole.{without, Whole}
 
@@ -31,10 +29,6 @@ Whole-tables = (s : State) → Whole s → Stands (s .tables)
 -- Whatever the call, and whether it is accepted or refused, a whole state stays whole; of a collector it is asked that it leaves tables that stand.
 abbrev pub Step-keeps : Type 0
 Step-keeps = (c : Call) (left : Tables) (s : State) → Whole s → (c ≡ Collect → Stands left) → Whole (step c left s .1)
-
--- Unifying two words of registers keeps the rules, and the newest choice point undoes what it bound.
-abbrev pub Unify-keeps : Type 0
-Unify-keeps = (t u : Tables) (a b : Cell) → Stands t → Keeps t a → Keeps t b → unifyWords t a b ≡ some u → Stands u × (HasChoice t → last u ≡ last t)
 
 -- Older levels.
 
