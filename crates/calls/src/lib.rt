@@ -1,4 +1,6 @@
 // The calls of a store and their answers.
+pub mod keeping;
+
 use cells::Refusal;
 use cells::Seen;
 use cells::Verdict;
