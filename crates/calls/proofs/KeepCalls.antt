@@ -40,24 +40,24 @@ use Rattle.calls.proofs.KeepSteps.{Accepted, half-none, none-stands, none-whol
 abbrev pub Keeping : Call → Type 0
 Keeping c = (left : Tables) (s : State) → Whole s → Accepted c s → Whole (act c left s .1)
 
-keep-var : (d : ℕ) → Keeping (Var d)
+pub keep-var : (d : ℕ) → Keeping (Var d)
 keep-var d left s w a = let t = s .tables in let e = half-none s (a .0 .0) in let n = stands-newVariable t (let b = a .1 in omega arith) (none-stands s e w) in
     none-whole s _ e (stands-setRegister (newVariable t) d (Reference (used t)) (n .1) (n .0))
 
-keep-atom : (d n : ℕ) → Keeping (SetAtom d n)
+pub keep-atom : (d n : ℕ) → Keeping (SetAtom d n)
 keep-atom d n left s w a = let e = half-none s (a .0 .0) in let q = a .0 .1 .1 in
     none-whole s _ e (stands-setRegister (s .tables) d (Atom n) (tt, not-false (inRange (Atom n)) (q .0)) (none-stands s e w))
 
-keep-int : (d : ℕ) (z : ℤ) → Keeping (Int d z)
+pub keep-int : (d : ℕ) (z : ℤ) → Keeping (Int d z)
 keep-int d z left s w a = let e = half-none s (a .0 .0) in let q = a .0 .1 .1 in
     none-whole s _ e (stands-setRegister (s .tables) d (Integer z) (tt, not-false (inRange (Integer z)) (q .0)) (none-stands s e w))
 
-keep-move : (d r : ℕ) → Keeping (Move d r)
+pub keep-move : (d r : ℕ) → Keeping (Move d r)
 keep-move d r left s w a = let e = half-none s (a .0 .0) in let k = none-stands s e w in
     none-whole s _ e (stands-setRegister (s .tables) d (register (s .tables) r) (keeps-register (s .tables) r k) k)
 
 -- An argument of the structure at the end of a chain may stand in a register.
-argument-keeps : (t : Tables) → Stands t → (c : Cell) → WordKeeps (heapOf (t .heap)) (used t) c → (i n : ℕ) → argumentOf t c i ≡ some n → Keeps t (cellAt t n)
+pub argument-keeps : (t : Tables) → Stands t → (c : Cell) → WordKeeps (heapOf (t .heap)) (used t) c → (i n : ℕ) → argumentOf t c i ≡ some n → Keeps t (cellAt t n)
 argument-keeps t o (Reference m) k i n e = absurd (let z : _≡_ {A = ℕ} 0 1 = cc in omega arith)
 argument-keeps t o (Pointer m) k i n e = by (eqb i 0 || ltb (arityOf (cellAt t m)) i) refl e
   where
@@ -70,7 +70,7 @@ argument-keeps t o (Functor name arity) k i n e = absurd k
 argument-keeps t o (Atom a) k i n e = absurd (let z : _≡_ {A = ℕ} 0 1 = cc in omega arith)
 argument-keeps t o (Integer y) k i n e = absurd (let z : _≡_ {A = ℕ} 0 1 = cc in omega arith)
 
-keep-arg : (d r i : ℕ) → Keeping (Arg d r i)
+pub keep-arg : (d r i : ℕ) → Keeping (Arg d r i)
 keep-arg d r i left s w a = by (argument t r i) refl
   where
     t : Tables
@@ -84,7 +84,7 @@ keep-arg d r i left s w a = by (argument t r i) refl
     by (some n) p = let k = none-stands s e w in none-whole s _ e (stands-setRegister t d (cellAt t n)
         (argument-keeps t k (end t (register t r)) (end-keeps t (k .0) (register t r) (keeps-register t r k .0)) i n p) k)
 
-keep-unify : Unify-keeps → (p q : ℕ) → Keeping (Unify p q)
+pub keep-unify : Unify-keeps → (p q : ℕ) → Keeping (Unify p q)
 keep-unify unified p q left s w a = by (unifyWords t (register t p) (register t q)) refl
   where
     t : Tables
@@ -97,20 +97,20 @@ keep-unify unified p q left s w a = by (unifyWords t (register t p) (register t 
     by none x = w
     by (some u) x = let k = none-stands s e w in none-whole s u e (unified t u (register t p) (register t q) k (keeps-register t p k) (keeps-register t q k) x .0)
 
-keep-open : Keeping Open
+pub keep-open : Keeping Open
 keep-open left s w a = let e = half-none s (a .0 .0) in let q = a .0 .1 .0 in
     none-whole s _ e (stands-pushChoice (s .tables) (leb-false 64 (length (s .tables .choices)) q) (none-stands s e w))
 
-keep-retry : Keeping Retry
+pub keep-retry : Keeping Retry
 keep-retry left s w a = let e = half-none s (a .0 .0) in none-whole s _ e (stands-retry (s .tables) (none-stands s e w))
 
-keep-last : Keeping Last
+pub keep-last : Keeping Last
 keep-last left s w a = let e = half-none s (a .0 .0) in none-whole s _ e (stands-last (s .tables) (none-stands s e w))
 
-keep-cut : (k : ℕ) → Keeping (Cut k)
+pub keep-cut : (k : ℕ) → Keeping (Cut k)
 keep-cut k left s w a = let e = half-none s (a .0 .0) in none-whole s _ e (stands-keepChoices (s .tables) k (none-stands s e w))
 
-keep-start : (name arity : ℕ) → Keeping (Start name arity)
+pub keep-start : (name arity : ℕ) → Keeping (Start name arity)
 keep-start name arity left s w a = half-stands (s .tables) name arity [] arity (record {
   full = omega arith;
   range = not-false (inRange (Functor name arity)) (a .0 .1 .0);
@@ -119,21 +119,21 @@ keep-start name arity left s w a = half-stands (s .tables) name arity [] arity (
   keeps = tt;
 })
 
-keep-put : (slip : Draft) (r : ℕ) → Keeping (Put slip r)
+pub keep-put : (slip : Draft) (r : ℕ) → Keeping (Put slip r)
 keep-put slip r left s w a = let x = half-some s slip (a .0 .0) in let q = a .0 .1 .1 in let o = some-stands s (x .half) (x .is) w in
     subst (λ (y : Answer × State). Whole (y .1)) (sym (onHalf-some s (x .half) _ (x .is)))
     (half-written (s .tables) (x .half) o (register (s .tables) r) (missing-some s slip x (q .0)) (inl (keeps-register _ r (o .before))) .0)
 
-keep-hole : (slip : Draft) → Keeping (Hole slip)
+pub keep-hole : (slip : Draft) → Keeping (Hole slip)
 keep-hole slip left s w a = let x = half-some s slip (a .0 .0) in let o = some-stands s (x .half) (x .is) w in
     subst (λ (y : Answer × State). Whole (y .1)) (sym (onHalf-some s (x .half) _ (x .is)))
     (half-written (s .tables) (x .half) o (Reference (nextArgument (s .tables) (x .half))) (missing-some s slip x (a .0 .1 .0)) (inr refl) .0)
 
-keep-done : (slip : Draft) (d : ℕ) → Keeping (Done slip d)
+pub keep-done : (slip : Draft) (d : ℕ) → Keeping (Done slip d)
 keep-done slip d left s w a = let x = half-some s slip (a .0 .0) in let o = half-tables (s .tables) (x .half) (some-stands s (x .half) (x .is) w) in
     subst (λ (y : Answer × State). Whole (y .1)) (sym (onHalf-some s (x .half) _ (x .is))) (stands-setRegister (s .tables) d (Pointer (x .half .at)) (o .1) (o .0))
 
-keep-void : (slip : Draft) → Keeping (Void slip)
+pub keep-void : (slip : Draft) → Keeping (Void slip)
 keep-void slip left s w a = let x = half-some s slip (a .0 .0) in
     subst (λ (y : Answer × State). Whole (y .1)) (sym (onHalf-some s (x .half) _ (x .is))) (some-stands s (x .half) (x .is) w .before)
 
