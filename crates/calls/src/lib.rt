@@ -1,5 +1,6 @@
 // The calls of a store and their answers.
 pub mod unifying;
+pub mod keeping;
 
 use cells::Refusal;
 use cells::Seen;
@@ -14,7 +15,6 @@ pub struct Draft {
 }
 
 // A call with its arguments. D, S and T are registers; numbers of any size can be named.
-#[derive(Clone, Copy)]
 pub enum Call {
     Var { d: u64 },
     Atom { d: u64, n: u64 },
@@ -35,10 +35,8 @@ pub enum Call {
     Void { slip: Draft },
     Collect,
     Usage,
-}
 
 // What a call answers. A call with nothing to tell answers Nothing.
-#[derive(Clone, Copy)]
 pub enum Answer {
     Nothing,
     Refused(Refusal),
@@ -50,4 +48,3 @@ pub enum Answer {
         entries: u64,
         points: u64,
     },
-}
