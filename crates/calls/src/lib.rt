@@ -1,6 +1,6 @@
 // The calls of a store and their answers.
-pub mod unifying;
 pub mod keeping;
+pub mod unifying;
 
 use cells::Refusal;
 use cells::Seen;
@@ -15,6 +15,7 @@ pub struct Draft {
 }
 
 // A call with its arguments. D, S and T are registers; numbers of any size can be named.
+#[derive(Clone, Copy)]
 pub enum Call {
     Var { d: u64 },
     Atom { d: u64, n: u64 },
@@ -35,16 +36,15 @@ pub enum Call {
     Void { slip: Draft },
     Collect,
     Usage,
+}
 
 // What a call answers. A call with nothing to tell answers Nothing.
+#[derive(Clone, Copy)]
 pub enum Answer {
     Nothing,
     Refused(Refusal),
     Sees(Seen),
     Tells(Verdict),
     Hands(Draft),
-    Counts {
-        used: u64,
-        entries: u64,
-        points: u64,
-    },
+    Counts { used: u64, entries: u64, points: u64 },
+}
