@@ -1,15 +1,15 @@
 -- Each accepted call leaves a whole state whole.
-use mathlib.Core.Path.{_≡_, refl, ap, _∙_, sym, subst}
-use mathlib.Core.Bool.{Bool, true, false, cond, not, _||_}
-use mathlib.Core.List.{List, [], _∷_}
-use mathlib.Core.Logic.{_⊎_, inl, inr}
+use mathlib.Core.Path.{_≡_, refl, sym, subst}
+use mathlib.Core.Bool.{Bool, true, false, cond, _||_}
+use mathlib.Core.List.{[]}
+use mathlib.Core.Logic.{inl, inr}
 use mathlib.Core.Option.{Option, some, none}
-use Prim.Native.Nat.{ℕ, suc, _+_, _<_, _≤_}
+use Prim.Native.Nat.{ℕ, _+_}
 use native.Mathlib.Omega.{arith}
-use lib.Dec.{eqb, leb, ltb}
+use lib.Dec.{eqb, ltb}
 use lib.ListN.{length}
 use lib.IntN.{ℤ}
-use Rattle.std.proofs.shelf.Tests.{both-ways, not-false, ltb-false, leb-false, eqb-false, or-parts}
+use Rattle.std.proofs.shelf.Tests.{not-false, ltb-false, leb-false, eqb-false, or-parts}
 use Rattle.cells.specs.declared.cell.Cell.{Cell}
 use Rattle.cells.specs.declared.cell.Cell.the-variants.{Reference, Pointer, Functor, Atom, Integer}
 use Rattle.cells.specs.Cells.{inRange}
@@ -30,11 +30,11 @@ use Rattle.calls.specs.declared.Call.{Call}
 use Rattle.calls.specs.declared.Call.the-variants.{Var, Atom as SetAtom, Int, Move, Look, Arg, Same, Unify, Open, Retry, Last, Cut, Start, Put, Hole, Done, Void, Collect, Usage}
 use Rattle.calls.specs.declared.Answer.{Answer}
 use Rattle.calls.specs.Unifying.{unifyWords}
-use Rattle.calls.specs.Steps.{Half, State, argumentOf, argument, setArgument, ifUnified, nextArgument, act}
+use Rattle.calls.specs.Steps.{State, argumentOf, argument, setArgument, ifUnified, nextArgument, act}
 use Rattle.calls.specs.Whole.{Whole}
-use Rattle.calls.proofs.KeepUnify.{Unify-keeps}
-use Rattle.calls.proofs.KeepHalf.{Parts, half-stands, half-tables, half-written, functor-from}
-use Rattle.calls.proofs.KeepSteps.{Accepted, half-none, none-stands, none-whole, Slipped, half-some, some-stands, onHalf-some, missing-some}
+use Rattle.calls.proofs.KeepUnify.{unify-keeps}
+use Rattle.calls.proofs.KeepHalf.{half-stands, half-tables, half-written, functor-from}
+use Rattle.calls.proofs.KeepSteps.{Accepted, half-none, none-stands, none-whole, half-some, some-stands, onHalf-some, missing-some}
 
 -- An accepted call leaves a whole state whole.
 abbrev pub Keeping : Call → Type 0
@@ -84,8 +84,8 @@ keep-arg d r i left s w a = by (argument t r i) refl
     by (some n) p = let k = none-stands s e w in none-whole s _ e (stands-setRegister t d (cellAt t n)
         (argument-keeps t k (end t (register t r)) (end-keeps t (k .0) (register t r) (keeps-register t r k .0)) i n p) k)
 
-keep-unify : Unify-keeps → (p q : ℕ) → Keeping (Unify p q)
-keep-unify unified p q left s w a = by (unifyWords t (register t p) (register t q)) refl
+keep-unify : (p q : ℕ) → Keeping (Unify p q)
+keep-unify p q left s w a = by (unifyWords t (register t p) (register t q)) refl
   where
     t : Tables
     t = s .tables
@@ -95,7 +95,7 @@ keep-unify unified p q left s w a = by (unifyWords t (register t p) (register t 
 
     by : (o : Option Tables) → unifyWords t (register t p) (register t q) ≡ o → Whole (ifUnified s o .1)
     by none x = w
-    by (some u) x = let k = none-stands s e w in none-whole s u e (unified t u (register t p) (register t q) k (keeps-register t p k) (keeps-register t q k) x .0)
+    by (some u) x = let k = none-stands s e w in none-whole s u e (unify-keeps t u (register t p) (register t q) k (keeps-register t p k) (keeps-register t q k) x .0)
 
 keep-open : Keeping Open
 keep-open left s w a = let e = half-none s (a .0 .0) in let q = a .0 .1 .0 in
@@ -137,23 +137,23 @@ keep-void : (slip : Draft) → Keeping (Void slip)
 keep-void slip left s w a = let x = half-some s slip (a .0 .0) in
     subst (λ (y : Answer × State). Whole (y .1)) (sym (onHalf-some s (x .half) _ (x .is))) (some-stands s (x .half) (x .is) w .before)
 
-pub act-keeps : Unify-keeps → (c : Call) (left : Tables) (s : State) → Whole s → (c ≡ Collect → Stands left) → Accepted c s → Whole (act c left s .1)
-act-keeps unified (Var d) left s w l a = keep-var d left s w a
-act-keeps unified (SetAtom d n) left s w l a = keep-atom d n left s w a
-act-keeps unified (Int d z) left s w l a = keep-int d z left s w a
-act-keeps unified (Move d r) left s w l a = keep-move d r left s w a
-act-keeps unified (Look r) left s w l a = w
-act-keeps unified (Arg d r i) left s w l a = keep-arg d r i left s w a
-act-keeps unified (Same p q) left s w l a = w
-act-keeps unified (Unify p q) left s w l a = keep-unify unified p q left s w a
-act-keeps unified Open left s w l a = keep-open left s w a
-act-keeps unified Retry left s w l a = keep-retry left s w a
-act-keeps unified Last left s w l a = keep-last left s w a
-act-keeps unified (Cut k) left s w l a = keep-cut k left s w a
-act-keeps unified (Start name arity) left s w l a = keep-start name arity left s w a
-act-keeps unified (Put slip r) left s w l a = keep-put slip r left s w a
-act-keeps unified (Hole slip) left s w l a = keep-hole slip left s w a
-act-keeps unified (Done slip d) left s w l a = keep-done slip d left s w a
-act-keeps unified (Void slip) left s w l a = keep-void slip left s w a
-act-keeps unified Collect left s w l a = none-whole s left (half-none s (a .0 .0)) (l refl)
-act-keeps unified Usage left s w l a = w
+pub act-keeps : (c : Call) (left : Tables) (s : State) → Whole s → (c ≡ Collect → Stands left) → Accepted c s → Whole (act c left s .1)
+act-keeps (Var d) left s w l a = keep-var d left s w a
+act-keeps (SetAtom d n) left s w l a = keep-atom d n left s w a
+act-keeps (Int d z) left s w l a = keep-int d z left s w a
+act-keeps (Move d r) left s w l a = keep-move d r left s w a
+act-keeps (Look r) left s w l a = w
+act-keeps (Arg d r i) left s w l a = keep-arg d r i left s w a
+act-keeps (Same p q) left s w l a = w
+act-keeps (Unify p q) left s w l a = keep-unify p q left s w a
+act-keeps Open left s w l a = keep-open left s w a
+act-keeps Retry left s w l a = keep-retry left s w a
+act-keeps Last left s w l a = keep-last left s w a
+act-keeps (Cut k) left s w l a = keep-cut k left s w a
+act-keeps (Start name arity) left s w l a = keep-start name arity left s w a
+act-keeps (Put slip r) left s w l a = keep-put slip r left s w a
+act-keeps (Hole slip) left s w l a = keep-hole slip left s w a
+act-keeps (Done slip d) left s w l a = keep-done slip d left s w a
+act-keeps (Void slip) left s w l a = keep-void slip left s w a
+act-keeps Collect left s w l a = none-whole s left (half-none s (a .0 .0)) (l refl)
+act-keeps Usage left s w l a = w
