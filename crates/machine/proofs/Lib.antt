@@ -1,1 +1,7 @@
 mod WorkedExamples
+mod Below
+mod UnifyBelow
+mod SpellBelow
+mod Related
+mod Acted
+mod SetRegisters
