@@ -5,3 +5,5 @@ mod SpellBelow
 mod Related
 mod Acted
 mod SetRegisters
+mod LookCalls
+mod ArgumentCalls
