@@ -1,13 +1,13 @@
 -- What is to be shown of a call that neither side refuses: the answers compare, and the states agree afterwards.
 use mathlib.Core.List.{List, []}
-use mathlib.Core.Option.{none}
+use mathlib.Core.Option.{some, none}
 use Prim.Native.Nat.{ℕ}
 use Rattle.tables.specs.Tables.{Tables}
 use Rattle.calls.specs.declared.Call.{Call}
 use Rattle.calls.specs.Steps as Store
-use Rattle.calls.specs.Steps.{State}
+use Rattle.calls.specs.Steps.{State, Half}
 use Rattle.machine.specs.Machine as Tree
-use Rattle.machine.specs.Machine.{Level, Machine}
+use Rattle.machine.specs.Machine.{Level, Begun, Machine}
 use Rattle.machine.specs.Runs.{Compared}
 use Rattle.machine.proofs.Related.{Relates}
 
@@ -20,3 +20,10 @@ idle t = record { tables = t; half = none }
 
 abbrev pub machine : ℕ → Level → List Level → Machine
 machine n now saved = record { next = n; now = now; saved = saved; half = none }
+
+-- with one
+abbrev pub making : Tables → Half → State
+making t h = record { tables = t; half = some h }
+
+abbrev pub maker : ℕ → Level → List Level → Begun → Machine
+maker n now saved b = record { next = n; now = now; saved = saved; half = some b }

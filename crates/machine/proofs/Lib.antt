@@ -7,3 +7,5 @@ mod Acted
 mod SetRegisters
 mod LookCalls
 mod ArgumentCalls
+mod ChoiceCalls
+mod HalfMade

@@ -87,19 +87,27 @@ alike-made F nat {t} {u} a = record {
   back = nat (a .from) u ∙ ap F (a .back);
 }
 
--- the registers alone, out of the one row
-abbrev frontOf : Tree Sort.one → Terms
+-- The registers alone, out of the one row, and the arguments alone.
+abbrev pub frontOf : Tree Sort.one → Terms
 frontOf (var n) = nil
 frontOf (node l ts) = ts
 
-abbrev front : Terms → Terms
+abbrev pub front : Terms → Terms
 front nil = nil
 front (cons t ts) = frontOf t
 
-front-rename : (f : ℕ → ℕ) (ts : Terms) → rename f (front ts) ≡ front (rename f ts)
+pub front-rename : (f : ℕ → ℕ) (ts : Terms) → rename f (front ts) ≡ front (rename f ts)
 front-rename f nil = refl
 front-rename f (cons (var n) ts) = refl
 front-rename f (cons (node l us) ts) = refl
+
+abbrev pub rest : Terms → Terms
+rest nil = nil
+rest (cons t ts) = ts
+
+pub rest-rename : (f : ℕ → ℕ) (ts : Terms) → rename f (rest ts) ≡ rest (rename f ts)
+rest-rename f nil = refl
+rest-rename f (cons t ts) = refl
 
 pub alike-registers : {rs us args bs : Terms} → Alike (pair rs args) (pair us bs) → Alike rs us
 alike-registers a = alike-made front front-rename a
