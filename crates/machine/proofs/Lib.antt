@@ -9,3 +9,4 @@ mod LookCalls
 mod ArgumentCalls
 mod ChoiceCalls
 mod HalfMade
+mod StructureCalls
