@@ -1,3 +1,4 @@
 pub mod Refusals
 pub mod Unifying
 pub mod Steps
+pub mod UnifyLaws

@@ -1,4 +1,6 @@
 // The calls of a store and their answers.
+pub mod unifying;
+
 use cells::Refusal;
 use cells::Seen;
 use cells::Verdict;
@@ -43,5 +45,9 @@ pub enum Answer {
     Sees(Seen),
     Tells(Verdict),
     Hands(Draft),
-    Counts { used: u64, entries: u64, points: u64 },
+    Counts {
+        used: u64,
+        entries: u64,
+        points: u64,
+    },
 }
