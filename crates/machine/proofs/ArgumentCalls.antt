@@ -21,7 +21,7 @@ use Rattle.heaps.specs.Spelling.{arityOf, run, spell, spelled}
 use Rattle.heaps.specs.Ends.{end}
 use Rattle.heaps.specs.Rules.{WordKeeps, Rules}
 use Rattle.heaps.specs.LevelLaws.{Stands, Keeps}
-use Rattle.heaps.proofs.WordLaws.{unbound-is}
+use Rattle.heaps.proofs.WordKinds.{unbound-is}
 use Rattle.heaps.proofs.EndLaws.{end-ends, spell-end, end-keeps}
 use Rattle.heaps.proofs.SpellLaws.{spell-unbound, spell-bound, spell-pointer}
 use Rattle.heaps.proofs.KeptWords.{keeps-register, keeps-argument}
@@ -76,9 +76,10 @@ module _ (t : Tables) (s : Stands t) where
       by : (i < arity) ⊎ (arity ≤ i) → Spelt t (cond (eqb (suc i) 0 || ltb arity (suc i)) none (some (n + suc i))) (cond (ltb i (long args)) (some (pick args i)) none)
       by (inl p) = subst₂ (λ (b c : Bool). Spelt t (cond b none (some (n + suc i))) (cond c (some (pick args i)) none))
           (sym (ap (λ (b : Bool). b || ltb arity (suc i)) (ne-eqb (suc i) 0 (λ z. omega arith)) ∙ le-ltb arity (suc i) p))
-          (sym (lt-ltb i (long args) (let l = long-run (spell (t .heap)) (suc n) arity in omega arith)))
-          ( keeps-argument t n name arity (n + suc i) s lt e (omega arith) (omega arith)
-          , sym (pick-run (spell (t .heap)) (suc n) arity i p ∙ ap (λ (j : ℕ). spell (t .heap) (Reference j)) (omega arith) ∙ read-cell t (s .0) (n + suc i)) )
+          (sym (lt-ltb i (long args) (let l = long-run (spell (t .heap)) (suc n) arity in omega arith))) (
+            keeps-argument t n name arity (n + suc i) s lt e (omega arith) (omega arith),
+            sym (pick-run (spell (t .heap)) (suc n) arity i p ∙ ap (λ (j : ℕ). spell (t .heap) (Reference j)) (omega arith) ∙ read-cell t (s .0) (n + suc i)),
+          )
       by (inr p) = subst₂ (λ (b c : Bool). Spelt t (cond b none (some (n + suc i))) (cond c (some (pick args i)) none))
           (sym (ap (λ (b : Bool). b || ltb arity (suc i)) (ne-eqb (suc i) 0 (λ z. omega arith)) ∙ lt-ltb arity (suc i) (omega arith)))
           (sym (le-ltb i (long args) (let l = long-run (spell (t .heap)) (suc n) arity in omega arith))) tt
@@ -190,8 +191,11 @@ module _ (t : Tables) (n : ℕ) (now : Level) (saved : List Level) (r : Related 
       by none (some u) y p e g f = absurd p
       by (some j) none y p e g f = absurd p
       by (some j) (some u) none p e g f = absurd (let z : _≡_ {A = ℕ} 0 1 = cc in omega arith)
-      by (some j) (some u) (some v) p e g f = (refl, related-made t n now saved r argument-of argument-natural d (cellAt t j) v (p .0)
-          (p .1 ∙ ap termOf (sym e) ∙ ap (λ (x : Term). termOf (argumentOf x i)) (register-spells t n now saved r s))
-          (ap (apply (now .values)) (ap termOf (sym g)) ∙ fixed-argument (now .values) _ i (absorbs-tree (now .values) (now .values) (r .present .settled) (pick (now .registers) s))
+      by (some j) (some u) (some v) p e g f = (
+        refl,
+        related-made t n now saved r argument-of argument-natural d (cellAt t j) v (p .0)
+            (p .1 ∙ ap termOf (sym e) ∙ ap (λ (x : Term). termOf (argumentOf x i)) (register-spells t n now saved r s))
+            (ap (apply (now .values)) (ap termOf (sym g)) ∙ fixed-argument (now .values) _ i (absorbs-tree (now .values) (now .values) (r .present .settled) (pick (now .registers) s))
             ∙ ap (λ (x : Term). termOf (argumentOf x i)) (term-at t n now saved r s))
-          (below-argument n (pick (terms now) s) i (below-pick n (terms now) s (r .present .below .0))))
+            (below-argument n (pick (terms now) s) i (below-pick n (terms now) s (r .present .below .0))),
+      )

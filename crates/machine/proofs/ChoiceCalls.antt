@@ -63,37 +63,43 @@ module _ (t : Tables) (n : ℕ) (now : Level) (saved : List Level) (r : Related 
   open-acted left lt = (refl, related-open t n now saved lt r)
 
   pub cut-acted : (left : Tables) (k : ℕ) → Acted (Cut k) left (idle t) (machine n now saved)
-  cut-acted left k = (refl, record {
-    stands = stands-keepChoices t k (r .stands);
-    present = spells-alike (alike-refl (spelled t)) (r .present);
-    older = record {
-      points =
-        let p = r .older .points in
-        length-drop (length (t .choices) - k) (t .choices) ∙ (let e : length (t .choices) - (length (t .choices) - k) ≡ length saved - (length saved - k) = omega arith in e)
-          ∙ sym (length-drop (length saved - k) saved);
-      levels = level;
-    };
-  })
+  cut-acted left k = (
+    refl,
+    record {
+      stands = stands-keepChoices t k (r .stands);
+      present = spells-alike (alike-refl (spelled t)) (r .present);
+      older = record {
+        points =
+            let p = r .older .points in
+            length-drop (length (t .choices) - k) (t .choices) ∙ (let e : length (t .choices) - (length (t .choices) - k) ≡ length saved - (length saved - k) = omega arith in e)
+            ∙ sym (length-drop (length saved - k) saved);
+        levels = level;
+      };
+    },
+  )
     where
       level : (j : ℕ) → j < length (drop (length saved - k) saved) → Spells n (undo (keepChoices t k) (suc j)) [] (getD (drop (length saved - k) saved) j noLevel) nil
       level j lt =
           let p = r .older .points in
           let d = length-drop (length saved - k) saved in
           subst₂ (λ (x : Tables) (l : Level). Spells n x [] l nil)
-            (sym (undo-keepChoices t k (suc j) (r .stands .0 .tops) (omega arith) (omega arith)
-              ∙ ap (undo t) (let e : length (t .choices) - k + suc j ≡ suc (length saved - k + j) = omega arith in e)))
-            (sym (getD-drop (length saved - k) saved j noLevel))
-            (r .older .levels (length saved - k + j) (omega arith))
+          (sym (undo-keepChoices t k (suc j) (r .stands .0 .tops) (omega arith) (omega arith)
+          ∙ ap (undo t) (let e : length (t .choices) - k + suc j ≡ suc (length saved - k + j) = omega arith in e)))
+          (sym (getD-drop (length saved - k) saved j noLevel))
+          (r .older .levels (length saved - k + j) (omega arith))
 
   pub collect-acted : (count : ℕ) (left : Tables) → Shows count t left → Acted Collect left (idle t) (machine n now saved)
-  collect-acted count left h = (refl, record {
-    stands = (h .rules, h .fits);
-    present = spells-alike (h .spells 0 (omega arith)) (r .present);
-    older = record {
-      points = h .points ∙ r .older .points;
-      levels = λ j lt. spells-alike (h .spells (suc j) (let p = r .older .points in omega arith)) (r .older .levels j lt);
-    };
-  })
+  collect-acted count left h = (
+    refl,
+    record {
+      stands = (h .rules, h .fits);
+      present = spells-alike (h .spells 0 (omega arith)) (r .present);
+      older = record {
+        points = h .points ∙ r .older .points;
+        levels = λ j lt. spells-alike (h .spells (suc j) (let p = r .older .points in omega arith)) (r .older .levels j lt);
+      };
+    },
+  )
 
 pub last-acted : (t : Tables) (n : ℕ) (now : Level) (saved : List Level) → Related t [] n now nil saved → (left : Tables) → HasChoice t → Acted Last left (idle t) (machine n now saved)
 last-acted t n now [] r left some = absurd (let p = r .older .points in omega arith)
@@ -101,5 +107,8 @@ last-acted t n now (l ∷ ls) r left some = (refl, related-last t n now l ls r)
 
 pub retry-acted : (t : Tables) (n : ℕ) (now : Level) (saved : List Level) → Related t [] n now nil saved → (left : Tables) → HasChoice t → Acted Retry left (idle t) (machine n now saved)
 retry-acted t n now [] r left some = absurd (let p = r .older .points in omega arith)
-retry-acted t n now (l ∷ ls) r left some = (refl, subst (λ (x : Tables). Related x [] n l nil (l ∷ ls)) (sym (retry-last t (r .stands .0) some))
-    (related-open (last t) n l ls (let p = length-last t some in let q = r .stands .1 .points in omega arith) (related-last t n now l ls r)))
+retry-acted t n now (l ∷ ls) r left some = (
+  refl,
+  subst (λ (x : Tables). Related x [] n l nil (l ∷ ls)) (sym (retry-last t (r .stands .0) some))
+      (related-open (last t) n l ls (let p = length-last t some in let q = r .stands .1 .points in omega arith) (related-last t n now l ls r)),
+)

@@ -65,19 +65,22 @@ draft-same p q r = λ i. record { name = p i; arity = q i; missing = r i }
 
 pub start-acted : (t : Tables) (n : ℕ) (now : Level) (saved : List Level) → Related t [] n now nil saved → (left : Tables) (name arity : ℕ)
     → inRange (Functor name arity) ≡ true → used t + suc arity ≤ 4096 → Acted (Start name arity) left (idle t) (machine n now saved)
-start-acted t n now saved r left name arity e le = (ap Hands (draft-same refl refl (omega arith)), record {
-  base = t;
-  written = [];
-  structure = refl;
-  at-top = refl;
-  counted = omega arith;
-  as-many = refl;
-  ranged = e;
-  room = omega arith;
-  keeps = tt;
-  bounded = (below-more (used t) _ (omega arith) (spelled t) (spelled-below t (r .stands .0)), tt);
-  related = r;
-})
+start-acted t n now saved r left name arity e le = (
+  ap Hands (draft-same refl refl (omega arith)),
+  record {
+    base = t;
+    written = [];
+    structure = refl;
+    at-top = refl;
+    counted = omega arith;
+    as-many = refl;
+    ranged = e;
+    room = omega arith;
+    keeps = tt;
+    bounded = (below-more (used t) _ (omega arith) (spelled t) (spelled-below t (r .stands .0)), tt);
+    related = r;
+  },
+)
 
 module _ (t : Tables) (h : Half) (n : ℕ) (now : Level) (saved : List Level) (b : Begun) (r : HalfRelated t h n now saved b) where
   functor-cell : cellAt t (h .at) ≡ Functor (b .name) (b .arity)
@@ -97,7 +100,7 @@ module _ (t : Tables) (h : Half) (n : ℕ) (now : Level) (saved : List Level) (b
       → Keeps (r .base) w ⊎ (w ≡ Reference place) → Below (suc place) (spell (r .base .heap) w) → Below (n + new) (apply (now .values) u)
       → Alike (push (shown (r .base) (r .written)) (spell (r .base .heap) w)) (push (resolved now (b .arguments)) (apply (now .values) u))
       → Compared (Store.write (making t h) w h .0) (Tree.write (maker n now saved b) u new b .0)
-        × Relates (Store.write (making t h) w h .1) (Tree.write (maker n now saved b) u new b .1)
+      × Relates (Store.write (making t h) w h .1) (Tree.write (maker n now saved b) u new b .1)
   write-acted w u new lt k bw bu a = (ap Hands draft, half)
     where
       words : List Cell
@@ -138,14 +141,14 @@ module _ (t : Tables) (h : Half) (n : ℕ) (now : Level) (saved : List Level) (b
         room = r .room;
         keeps = arguments-push (r .base) (suc (used (r .base))) (r .written) w (r .keeps) (elim k [ inl p ↦ inl p | inr e ↦ inr (e ∙ ap Reference (omega arith)) ]);
         bounded = subst₂ Below (let z : suc place ≡ suc (used (r .base) + length words) = (let l = length-words in omega arith) in z) (sym shown-more)
-          (below-joined (suc place) (shown (r .base) (r .written)) (cons _ nil) (below-more place (suc place) (omega arith) (shown (r .base) (r .written)) (r .bounded)) (bw, tt));
+            (below-joined (suc place) (shown (r .base) (r .written)) (cons _ nil) (below-more place (suc place) (omega arith) (shown (r .base) (r .written)) (r .bounded)) (bw, tt));
         related = record {
           stands = r .related .stands;
           present = record {
             settled = r .related .present .settled;
             beyond = λ x le. r .related .present .beyond x (omega arith);
             below = subst (Below (n + new)) (sym resolved-more) (below-joined (n + new) (resolved now (b .arguments)) (cons _ nil)
-              (below-more n (n + new) (omega arith) (resolved now (b .arguments)) (r .related .present .below)) (bu, tt));
+                (below-more n (n + new) (omega arith) (resolved now (b .arguments)) (r .related .present .below)) (bu, tt));
             alike = subst₂ Alike (sym shown-more) (sym resolved-more) a;
           };
           older = older-more n (n + new) (omega arith) (r .related .older);

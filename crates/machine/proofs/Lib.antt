@@ -2,7 +2,7 @@ mod WorkedExamples
 mod Below
 mod UnifyBelow
 mod SpellBelow
-mod Related
+pub mod Related
 mod Acted
 mod SetRegisters
 mod LookCalls
@@ -10,3 +10,10 @@ mod ArgumentCalls
 mod ChoiceCalls
 mod HalfMade
 mod StructureCalls
+mod UnifyCall
+mod Refusing
+mod Accepted
+pub mod Loaded
+pub mod Stepped
+pub mod RunsAgree
+pub mod RunsCounted

@@ -85,5 +85,8 @@ module _ (t : Tables) (n : ℕ) (now : Level) (saved : List Level) (r : Related 
   look-acted left s = (ap Sees (seen-end t (r .stands .0) (register t s) (keeps-register t s (r .stands) .0) ∙ seen-alike (alike-at s)), r)
 
   pub same-acted : (left : Tables) (a b : ℕ) → Acted (Same a b) left (idle t) (machine n now saved)
-  same-acted left a b = (ap (λ (x : Bool). Tells (verdict x)) (ap₂ sameTree (register-spells t n now saved r a) (register-spells t n now saved r b)
-      ∙ same-alike (alike-now t n now saved r) a b ∙ ap₂ sameTree (sym (term-at t n now saved r a)) (sym (term-at t n now saved r b))), r)
+  same-acted left a b = (
+    ap (λ (x : Bool). Tells (verdict x)) (ap₂ sameTree (register-spells t n now saved r a) (register-spells t n now saved r b)
+        ∙ same-alike (alike-now t n now saved r) a b ∙ ap₂ sameTree (sym (term-at t n now saved r a)) (sym (term-at t n now saved r b))),
+    r,
+  )

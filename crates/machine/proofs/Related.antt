@@ -132,6 +132,6 @@ pub older-same : (n : ℕ) (t u : Tables) (ls : List Level) → length (u .choic
 older-same n t u ls e p o = record {
   points = e ∙ o .points;
   levels = λ j lt.
-    let q = o .points in
-    subst (λ (x : Tables). Spells n (undo x j) [] (getD ls j noLevel) nil) (sym (p (omega arith))) (o .levels j lt);
+      let q = o .points in
+      subst (λ (x : Tables). Spells n (undo x j) [] (getD ls j noLevel) nil) (sym (p (omega arith))) (o .levels j lt);
 }

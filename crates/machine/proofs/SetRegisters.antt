@@ -116,8 +116,11 @@ module _ (t : Tables) (n : ℕ) (now : Level) (saved : List Level) (r : Related 
   int-acted left d z e = (refl, related-made (λ ts. node (whole z) nil) (λ f ts. refl) d (Integer z) (node (whole z) nil) (tt, e) refl refl tt)
 
   pub move-acted : (left : Tables) (d s : ℕ) → Acted (Move d s) left (idle t) (machine n now saved)
-  move-acted left d s = (refl, related-made (λ ts. pick ts s) (λ f ts. apply-pick _ ts s) d (register t s) (pick (now .registers) s)
-      (keeps-register t s (r .stands)) (register-spells s) (term-at s) (below-pick n (terms now) s (r .present .below .0)))
+  move-acted left d s = (
+    refl,
+    related-made (λ ts. pick ts s) (λ f ts. apply-pick _ ts s) d (register t s) (pick (now .registers) s)
+        (keeps-register t s (r .stands)) (register-spells s) (term-at s) (below-pick n (terms now) s (r .present .below .0)),
+  )
 
 -- A new variable: a cell more in the store, and a number more in the machine.
 module _ (t : Tables) (n : ℕ) (now : Level) (saved : List Level) (r : Related t [] n now nil saved) (lt : used t < 4096) where
@@ -147,7 +150,10 @@ module _ (t : Tables) (n : ℕ) (now : Level) (saved : List Level) (r : Related 
   value-new = r .present .beyond n (omega arith)
 
   pub var-acted : (left : Tables) (d : ℕ) → Acted (Var d) left (idle t) (machine n now saved)
-  var-acted left d = (refl, related-set (newVariable t) (suc n) now saved related-new d (Reference (used t)) (var n) (fresh .1)
-      (subst (Below (suc n)) (sym value-new) (omega arith))
-      (subst₂ Alike (ap₂ (λ ts u. change ts d u) (sym spelled-new) (sym spell-new)) (ap (change (terms now) d) (sym value-new))
-      (alike-new (λ ts u. change ts d u) (λ f ts u. apply-change _ ts d u) (used t) n (spelled t) (terms now) (spelled-below t (r .stands .0)) (r .present .below .0) (alike-now t n now saved r))))
+  var-acted left d = (
+    refl,
+    related-set (newVariable t) (suc n) now saved related-new d (Reference (used t)) (var n) (fresh .1)
+        (subst (Below (suc n)) (sym value-new) (omega arith))
+        (subst₂ Alike (ap₂ (λ ts u. change ts d u) (sym spelled-new) (sym spell-new)) (ap (change (terms now) d) (sym value-new))
+        (alike-new (λ ts u. change ts d u) (λ f ts u. apply-change _ ts d u) (used t) n (spelled t) (terms now) (spelled-below t (r .stands .0)) (r .present .below .0) (alike-now t n now saved r))),
+  )

@@ -68,12 +68,12 @@ module _ (t : Tables) (h : Half) (n : ℕ) (now : Level) (saved : List Level) (b
   pub put-acted : (left : Tables) (slip : Draft) (s : ℕ) → 0 < h .missing → Acted (Put slip s) left (making t h) (maker n now saved b)
   put-acted left slip s lt =
       subst (λ (w : Cell). Compared (Store.write (making t h) w h .0) (Tree.write (maker n now saved b) u 0 b .0) × Relates (Store.write (making t h) w h .1) (Tree.write (maker n now saved b) u 0 b .1))
-        (sym (base-registers s))
-        (write-acted t h n now saved b r w u 0 lt (inl keeps)
-          (below-more (used (r .base)) _ (omega arith) (spell (r .base .heap) w) (spell-below (r .base) (r .related .stands .0) w (keeps .0)))
-          (subst (Below (n + 0)) (sym term) (below-more n (n + 0) (omega arith) (pick (terms now) s) (below-pick n (terms now) s (r .related .present .below .0))))
-          (subst₂ Alike (ap (push (shown (r .base) (r .written))) (sym word)) (ap (push (resolved now (b .arguments))) (sym term))
-            (alike-made (λ ts. push ts (pick (front ts) s)) natural (r .related .present .alike))))
+      (sym (base-registers s))
+      (write-acted t h n now saved b r w u 0 lt (inl keeps)
+      (below-more (used (r .base)) _ (omega arith) (spell (r .base .heap) w) (spell-below (r .base) (r .related .stands .0) w (keeps .0)))
+      (subst (Below (n + 0)) (sym term) (below-more n (n + 0) (omega arith) (pick (terms now) s) (below-pick n (terms now) s (r .related .present .below .0))))
+      (subst₂ Alike (ap (push (shown (r .base) (r .written))) (sym word)) (ap (push (resolved now (b .arguments))) (sym term))
+      (alike-made (λ ts. push ts (pick (front ts) s)) natural (r .related .present .alike))))
     where
       w : Cell
       w = register (r .base) s
@@ -96,14 +96,14 @@ module _ (t : Tables) (h : Half) (n : ℕ) (now : Level) (saved : List Level) (b
   pub hole-acted : (left : Tables) (slip : Draft) → 0 < h .missing → Acted (Hole slip) left (making t h) (maker n now saved b)
   hole-acted left slip lt =
       subst (λ (i : ℕ). Compared (Store.write (making t h) (Reference i) h .0) (Tree.write (maker n now saved b) (var n) 1 b .0)
-          × Relates (Store.write (making t h) (Reference i) h .1) (Tree.write (maker n now saved b) (var n) 1 b .1))
-        (sym (place-is t h n now saved b r))
-        (write-acted t h n now saved b r (Reference at) (var n) 1 lt (inr refl)
-          (subst (Below (suc at)) (sym word) (omega arith))
-          (subst (Below (n + 1)) (sym term) (omega arith))
-          (subst₂ Alike (ap (push (shown (r .base) (r .written))) (sym word)) (ap (push (resolved now (b .arguments))) (sym term))
-            (alike-new push (λ f ts u. apply-joined _ ts (cons u nil)) at n (shown (r .base) (r .written)) (resolved now (b .arguments))
-              (r .bounded) (r .related .present .below) (r .related .present .alike))))
+      × Relates (Store.write (making t h) (Reference i) h .1) (Tree.write (maker n now saved b) (var n) 1 b .1))
+      (sym (place-is t h n now saved b r))
+      (write-acted t h n now saved b r (Reference at) (var n) 1 lt (inr refl)
+      (subst (Below (suc at)) (sym word) (omega arith))
+      (subst (Below (n + 1)) (sym term) (omega arith))
+      (subst₂ Alike (ap (push (shown (r .base) (r .written))) (sym word)) (ap (push (resolved now (b .arguments))) (sym term))
+      (alike-new push (λ f ts u. apply-joined _ ts (cons u nil)) at n (shown (r .base) (r .written)) (resolved now (b .arguments))
+      (r .bounded) (r .related .present .below) (r .related .present .alike))))
     where
       at : ℕ
       at = place t h n now saved b r
@@ -118,7 +118,7 @@ module _ (t : Tables) (h : Half) (n : ℕ) (now : Level) (saved : List Level) (b
   abbrev finished : Tables
   finished = newStructure (r .base) (b .name) (b .arity) (r .written)
 
-  label : Label
+  abbrev label : Label
   label = functor (b .name) (b .arity)
 
   module _ (none-missing : h .missing ≡ 0) where
@@ -146,37 +146,43 @@ module _ (t : Tables) (h : Half) (n : ℕ) (now : Level) (saved : List Level) (b
       older = older-same n (r .base) finished saved refl (λ some. last-more (r .base) (r .related .stands .0 .tops) some (Functor (b .name) (b .arity) ∷ r .written)) (r .related .older);
     }
 
-    spell-finished : spell (finished .heap) (Pointer (used (r .base))) ≡ node (functor (b .name) (b .arity)) (row (spell (r .base .heap)) (r .written))
+    spell-finished : spell (finished .heap) (Pointer (used (r .base))) ≡ node label (row (spell (r .base .heap)) (r .written))
     spell-finished =
         spell-pointer finished (stands-finished .0 .0) (used (r .base)) (b .name) (b .arity) (getD-at (r .base .heap) (Functor (b .name) (b .arity)) (r .written) (Reference (used (r .base))) (used (r .base)) refl)
-        ∙ ap (node (functor (b .name) (b .arity))) (ap (run (spell (finished .heap)) (suc (used (r .base)))) (sym all-written)
-          ∙ run-spells (r .base) (Functor (b .name) (b .arity) ∷ r .written) (r .related .stands .0) (stands-finished .0 .0) (suc (used (r .base))) (r .written) (r .base .heap ++ (Functor (b .name) (b .arity) ∷ []))
-            (sym (append-assoc (r .base .heap) (Functor (b .name) (b .arity) ∷ []) (r .written))) (let a = length-append (r .base .heap) (Functor (b .name) (b .arity) ∷ []) in omega arith) (omega arith) (r .keeps))
+        ∙ ap (node label) (ap (run (spell (finished .heap)) (suc (used (r .base)))) (sym all-written)
+        ∙ run-spells (r .base) (Functor (b .name) (b .arity) ∷ r .written) (r .related .stands .0) (stands-finished .0 .0) (suc (used (r .base))) (r .written) (r .base .heap ++ (Functor (b .name) (b .arity) ∷ []))
+        (sym (append-assoc (r .base .heap) (Functor (b .name) (b .arity) ∷ []) (r .written))) (let a = length-append (r .base .heap) (Functor (b .name) (b .arity) ∷ []) in omega arith) (omega arith) (r .keeps))
 
     pub done-acted : (left : Tables) (slip : Draft) (d : ℕ) → Acted (Done slip d) left (making t h) (maker n now saved b)
-    done-acted left slip d = (refl, subst₂ (λ (x : Tables) (i : ℕ). Related (setRegister x d (Pointer i)) [] n after nil saved) (sym tables-finished) (sym (r .at-top))
-        (related-set finished n now saved related-finished d (Pointer (used (r .base))) (node (functor (b .name) (b .arity)) (b .arguments)) (stands-finished .1) (r .related .present .below .1)
-          (subst (λ (ts : Terms). Alike ts (change (terms now) d (node (functor (b .name) (b .arity)) (apply (now .values) (b .arguments)))))
-            (ap₂ (λ (ts : Terms) (u : Term). change ts d u) (sym spelled-finished) (sym spell-finished))
-            (alike-made (λ ts. change (front ts) d (node (functor (b .name) (b .arity)) (rest ts))) natural (r .related .present .alike)))))
+    done-acted left slip d = (
+      refl,
+      subst₂ (λ (x : Tables) (i : ℕ). Related (setRegister x d (Pointer i)) [] n after nil saved) (sym tables-finished) (sym (r .at-top))
+          (related-set finished n now saved related-finished d (Pointer (used (r .base))) (node label (b .arguments)) (stands-finished .1) (r .related .present .below .1)
+          (subst (λ (ts : Terms). Alike ts (change (terms now) d (node label (apply (now .values) (b .arguments)))))
+          (ap₂ (λ (ts : Terms) (u : Term). change ts d u) (sym spelled-finished) (sym spell-finished))
+          (alike-made (λ ts. change (front ts) d (node label (rest ts))) natural (r .related .present .alike)))),
+    )
       where
         after : Level
-        after = record { values = now .values; registers = change (now .registers) d (node (functor (b .name) (b .arity)) (b .arguments)) }
+        after = record { values = now .values; registers = change (now .registers) d (node label (b .arguments)) }
 
-        natural : (f : ℕ → ℕ) (ts : Terms) → rename f (change (front ts) d (node (functor (b .name) (b .arity)) (rest ts))) ≡ change (front (rename f ts)) d (node (functor (b .name) (b .arity)) (rest (rename f ts)))
-        natural f ts = apply-change _ (front ts) d _ ∙ ap₂ (λ (x y : Terms). change x d (node (functor (b .name) (b .arity)) y)) (front-rename f ts) (rest-rename f ts)
+        natural : (f : ℕ → ℕ) (ts : Terms) → rename f (change (front ts) d (node label (rest ts))) ≡ change (front (rename f ts)) d (node label (rest (rename f ts)))
+        natural f ts = apply-change _ (front ts) d _ ∙ ap₂ (λ (x y : Terms). change x d (node label y)) (front-rename f ts) (rest-rename f ts)
 
   pub void-acted : (left : Tables) (slip : Draft) → Acted (Void slip) left (making t h) (maker n now saved b)
-  void-acted left slip = (refl, subst (λ (x : Tables). Related x [] n now nil saved) (sym tables-back) (record {
-    stands = r .related .stands;
-    present = record {
-      settled = r .related .present .settled;
-      beyond = r .related .present .beyond;
-      below = (r .related .present .below .0, tt);
-      alike = alike-alone (alike-registers (r .related .present .alike));
-    };
-    older = r .related .older;
-  }))
+  void-acted left slip = (
+    refl,
+    subst (λ (x : Tables). Related x [] n now nil saved) (sym tables-back) (record {
+      stands = r .related .stands;
+      present = record {
+        settled = r .related .present .settled;
+        beyond = r .related .present .beyond;
+        below = (r .related .present .below .0, tt);
+        alike = alike-alone (alike-registers (r .related .present .alike));
+      };
+      older = r .related .older;
+    }),
+  )
     where
       tables-back : cutHeap t (h .at) ≡ r .base
       tables-back = ap₂ cutHeap (r .structure) (r .at-top) ∙ ap (withHeap (r .base)) (take-at (r .base .heap) _ (used (r .base)) refl)

@@ -60,11 +60,13 @@ goals-below n x t b (each u v ∷ gs) g =
     ((below-apply n n (only x t) (only-below n x t b) u (g .0 .0), below-apply n n (only x t) (only-below n x t b) v (g .0 .1)), goals-below n x t b gs (g .1))
 
 bind-below : (n x : ℕ) (t : Term) (σ : Subst) (gs : List Goal) → x < n → Below n t → GoalsBelow n gs → NextBelow n σ (bind x t σ gs)
-bind-below n x t σ gs lt b g =
-    (record {
-      beyond = λ y le e. ap (apply (only x t)) e ∙ ap (λ (c : Bool). cond c t (var y)) (ne-eqb y x (λ p. omega arith));
-      below = λ y p. below-apply n n (only x t) (only-below n x t b) (σ y) p;
-    }, goals-below n x t b gs g)
+bind-below n x t σ gs lt b g = (
+  record {
+    beyond = λ y le e. ap (apply (only x t)) e ∙ ap (λ (c : Bool). cond c t (var y)) (ne-eqb y x (λ p. omega arith));
+    below = λ y p. below-apply n n (only x t) (only-below n x t b) (σ y) p;
+  },
+  goals-below n x t b gs g,
+)
 
 meet-below : (n : ℕ) (t u : Term) (σ : Subst) (gs : List Goal) → Below n t → Below n u → GoalsBelow n gs → NextBelow n σ (meet t u σ gs)
 meet-below n (var x) (var y) σ gs a b g = test (eqb x y) (ltb x y)
