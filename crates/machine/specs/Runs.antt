@@ -116,4 +116,4 @@ Counted s (e ∷ es) =
     × Counted (next e s) es
 
 abbrev pub Runs-counted : Type 0
-Runs-counted = (t : Tables) → (es : List Event) → Lawful (begin t) es → Counted (begin t) es
+Runs-counted = (t : Tables) → Rules t → Fits t → (es : List Event) → Lawful (begin t) es → Counted (begin t) es
