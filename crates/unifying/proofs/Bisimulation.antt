@@ -12,17 +12,17 @@ use Rattle.std.proofs.shelf.Tests.{eqb-true, eq-eqb}
 use Rattle.cells.specs.declared.cell.Cell.{Cell}
 use Rattle.cells.specs.declared.cell.Cell.the-variants.{Reference, Pointer}
 use Rattle.tables.specs.Tables.{Tables, cellAt}
-use Rattle.terms.specs.Terms.{Label, Sort, Tree, Term, Terms, node, nil, cons, size}
+use Rattle.terms.specs.Terms.{Label, Sort, Tree, Term, Terms, node, cons, size}
 use Rattle.heaps.specs.Lists.{Each}
 use Rattle.heaps.specs.Spelling.{labelOf, arityOf, run, spell}
 use Rattle.heaps.specs.LevelLaws.{Stands, Keeps}
 use Rattle.heaps.proofs.MemberLaws.{each-map}
 use Rattle.calls.specs.Unifying.{Pair, words, rows}
 use Rattle.calls.proofs.UnifyPairs.{PairKeeps, pairs-keep}
-use Rattle.unifying.specs.Merging.{Merge, sameClass, sameFunctor, arguments, MemoRun, finished, no-more, one-more, skipped, merged, clashed, stopped, went-on}
+use Rattle.unifying.specs.Merging.{Merge, sameClass, MemoRun, finished, no-more, one-more, skipped, merged, clashed, stopped, went-on}
 use Rattle.unifying.proofs.ClassLaws.{class-passes}
-use Rattle.unifying.proofs.SolutionLaws.{Reading, Solution, Equal, solution-self, solution-back, solution-alike, solution-pointer}
-use Rattle.unifying.proofs.WordsMeet.{Rest, behind, behind-row, Went, words-went, words-stop, reads-first, reads-second, second-structure, arguments-keep, row-keeps, rest-keeps}
+use Rattle.unifying.proofs.SolutionLaws.{Reading, Solution, solution-self, solution-back, solution-alike, solution-pointer}
+use Rattle.unifying.proofs.WordsMeet.{Rest, behind, behind-row, words-went, words-stop, reads-first, reads-second, second-structure, arguments-keep, row-keeps, rest-keeps}
 
 -- equal if one of them is smaller than n
 abbrev pub Near : {s : Sort} → ℕ → Tree s → Tree s → Type 0

@@ -1,8 +1,8 @@
 -- Where the pairs have a solution, unifying with merges takes the steps of unifying without, but for those that change nothing.
 -- The solution reads all merged structures alike, and the arguments still to be gone through are smaller in it than their structures.
 -- So two structures of one class, when they meet again, belong to merges whose arguments are all done, and spell the same already.
-use mathlib.Core.Path.{_≡_, refl, ap, ap₂, _∙_, sym, subst}
-use mathlib.Core.Bool.{Bool, true, false, cond}
+use mathlib.Core.Path.{_≡_, refl, ap, ap₂, _∙_, sym}
+use mathlib.Core.Bool.{Bool, true, cond}
 use mathlib.Core.Logic.{_⊎_, inl, inr, ⊎-elim}
 use mathlib.Core.List.{List, [], _∷_}
 use mathlib.Core.Option.{Option, none}
@@ -11,14 +11,13 @@ use native.Mathlib.Omega.{arith}
 use Rattle.cells.specs.declared.cell.Cell.{Cell}
 use Rattle.cells.specs.declared.cell.Cell.the-variants.{Reference, Pointer}
 use Rattle.tables.specs.Tables.{Tables, cellAt}
-use Rattle.terms.specs.Terms.{Term, node, cons, size}
+use Rattle.terms.specs.Terms.{node, cons, size}
 use Rattle.heaps.specs.Lists.{Each, Among, here, further}
 use Rattle.heaps.specs.Spelling.{labelOf, arityOf, run, spell}
-use Rattle.heaps.specs.Ends.{end}
 use Rattle.heaps.specs.LevelLaws.{Stands, Keeps}
 use Rattle.calls.specs.Unifying.{Pair, words, rows, go, stop, meet}
 use Rattle.calls.proofs.UnifyPairs.{PairKeeps}
-use Rattle.unifying.specs.Merging.{Merge, sameClass, sameFunctor, arguments, MemoRun, finished, no-more, one-more, skipped, merged, clashed, stopped, went-on}
+use Rattle.unifying.specs.Merging.{Merge, sameClass, arguments, MemoRun, no-more, one-more, skipped, merged, clashed, stopped, went-on}
 use Rattle.unifying.proofs.ClassLaws.{class-passes}
 use Rattle.unifying.proofs.SolutionLaws.{Reading, Solution, Equal, solution-self, solution-back, solution-alike, solution-pointer}
 use Rattle.unifying.proofs.WordsMeet.{Rest, behind, behind-row, words-went, words-stop, reads-first, reads-second, second-structure, functors-alike, arguments-keep, row-keeps}

@@ -3,20 +3,20 @@
 use mathlib.Core.Path.{_≡_, refl, ap, _∙_, sym}
 use mathlib.Core.Bool.{Bool, true, false, cond}
 use mathlib.Core.Logic.{_↔_}
-use mathlib.Core.List.{List, [], _∷_}
-use mathlib.Core.Option.{Option, some, none}
+use mathlib.Core.List.{List, _∷_}
+use mathlib.Core.Option.{none}
 use Prim.Native.Nat.{ℕ}
 use lib.Dec.{eqb, ltb}
 use Rattle.std.proofs.shelf.Tests.{both-ways, eqb-true, eqb-false, ne-eqb}
 use Rattle.cells.specs.declared.cell.Cell.{Cell}
-use Rattle.cells.specs.declared.cell.Cell.the-variants.{Reference, Pointer, Functor, Atom, Integer}
+use Rattle.cells.specs.declared.cell.Cell.the-variants.{Reference, Pointer, Atom, Integer}
 use Rattle.cells.specs.Cells.{inRange}
-use Rattle.tables.specs.Tables.{Tables, used, cellAt}
-use Rattle.terms.specs.Terms.{Label, named, whole, functor, Term, Terms, var, node, nil, apply, occurs, sameInt, sameLabel}
+use Rattle.tables.specs.Tables.{Tables}
+use Rattle.terms.specs.Terms.{Label, named, whole, Term, Terms, node, nil, apply, occurs, sameLabel}
 use Rattle.terms.proofs.TermLaws.{no-loop}
-use Rattle.terms.proofs.SameLaws.{sameLabel-true, sameLabel-false, sameInt-true}
+use Rattle.terms.proofs.SameLaws.{sameLabel-true, sameLabel-false}
 use Rattle.heaps.specs.Leads.{heapOf, unbound}
-use Rattle.heaps.specs.Spelling.{run, spell}
+use Rattle.heaps.specs.Spelling.{spell}
 use Rattle.heaps.specs.Binding.{bind}
 use Rattle.heaps.specs.Rules.{Rules}
 use Rattle.heaps.specs.SpellingLaws.{Bindable}

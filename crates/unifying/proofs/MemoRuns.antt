@@ -3,20 +3,17 @@
 use mathlib.Core.Path.{_≡_, refl, ap, _∙_, sym}
 use mathlib.Core.List.{List, [], _∷_}
 use mathlib.Core.Option.{Option, some, none}
-use Prim.Native.Nat.{ℕ}
-use Rattle.cells.specs.declared.cell.Cell.{Cell}
 use Rattle.tables.specs.Tables.{Tables}
 use Rattle.terms.specs.Terms.{apply}
 use Rattle.heaps.specs.Spelling.{spell}
-use Rattle.heaps.specs.LevelLaws.{Stands, Keeps}
-use Rattle.calls.specs.Unifying.{Pair, words, unifyWords}
+use Rattle.calls.specs.Unifying.{words, unifyWords}
 use Rattle.calls.specs.UnifyLaws.{MadeEqual}
 use Rattle.calls.proofs.UnifyMostGeneral.{unify-iso}
 use Rattle.unifying.specs.Merging.{Merge, MemoRun, finished}
 use Rattle.unifying.specs.Laws.{Memo-right}
 use Rattle.unifying.proofs.Bisimulation.{run-solves}
 use Rattle.unifying.proofs.TextbookSteps.{steps-solve}
-use Rattle.unifying.proofs.Lockstep.{Did, words-did}
+use Rattle.unifying.proofs.Lockstep.{words-did}
 
 -- with nothing to do the result is the tables
 ended : {t : Tables} {merges : List Merge} {r : Option Tables} → MemoRun t merges [] r → r ≡ some t

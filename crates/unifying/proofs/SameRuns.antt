@@ -2,27 +2,27 @@
 -- where it says no, two of the words met on the way spell different terms.
 use mathlib.Core.Path.{_≡_, refl, ap, _∙_, sym}
 use mathlib.Core.Bool.{Bool, true, false}
-use mathlib.Core.List.{List, [], _∷_}
+use mathlib.Core.List.{List}
 use mathlib.Core.Option.{some}
 use Prim.Native.Nat.{ℕ, suc}
 use native.Mathlib.Omega.{arith}
 use Rattle.std.proofs.shelf.Tests.{both-ways}
 use Rattle.cells.specs.declared.cell.Cell.{Cell}
-use Rattle.cells.specs.declared.cell.Cell.the-variants.{Reference, Pointer, Atom, Integer}
+use Rattle.cells.specs.declared.cell.Cell.the-variants.{Reference, Atom, Integer}
 use Rattle.tables.specs.Tables.{Tables, cellAt}
-use Rattle.terms.specs.Terms.{Term, node, sameTree}
+use Rattle.terms.specs.Terms.{Term, node}
 use Rattle.terms.proofs.SameLaws.{sameTree-true, same-decides}
 use Rattle.heaps.specs.Lists.{Each}
 use Rattle.heaps.specs.Spelling.{labelOf, arityOf, run, spell}
 use Rattle.heaps.specs.Ends.{end}
-use Rattle.heaps.specs.LevelLaws.{Stands, Keeps}
+use Rattle.heaps.specs.LevelLaws.{Stands}
 use Rattle.heaps.proofs.WordKinds.{false-of}
-use Rattle.calls.specs.Unifying.{Pair, words, rows}
+use Rattle.calls.specs.Unifying.{Pair}
 use Rattle.calls.proofs.UnifyEnds.{Ended, variable, structure, atom, integer, end-ended}
 use Rattle.calls.proofs.UnifyPairs.{PairKeeps}
 use Rattle.unifying.specs.Merging.{Merge, bothPointers, MemoRun, SameRun, finished, no-more, one-more, skipped, merged, clashed, went-on, alike, differing}
 use Rattle.unifying.specs.Laws.{Same-right}
-use Rattle.unifying.proofs.SolutionLaws.{Reading, Solution, Equal, solution-self, solution-pointer}
+use Rattle.unifying.proofs.SolutionLaws.{Reading, Equal, solution-self, solution-pointer}
 use Rattle.unifying.proofs.WordsMeet.{Rest, behind, behind-row, met, reads-first, reads-second, second-structure, functors-alike, arguments-keep, row-keeps}
 use Rattle.unifying.proofs.TextbookSteps.{met-same}
 use Rattle.unifying.proofs.Bisimulation.{run-solves}

@@ -1,8 +1,6 @@
 -- Solutions: a reading of all words that is an instance of what the tables spell. Binding a cell to a word that a solution
 -- reads alike keeps the solution, and what the bound tables spell is a solution of the tables before.
-use mathlib.Core.Path.{_≡_, refl, ap, ap₂, _∙_, sym, fun-ext}
-use mathlib.Core.Bool.{true}
-use mathlib.Core.List.{List, [], _∷_}
+use mathlib.Core.Path.{_≡_, ap, _∙_, sym, fun-ext}
 use Prim.Native.Nat.{ℕ, suc}
 use Rattle.cells.specs.declared.cell.Cell.{Cell}
 use Rattle.cells.specs.declared.cell.Cell.the-variants.{Reference, Pointer}
@@ -10,7 +8,6 @@ use Rattle.tables.specs.Tables.{Tables, cellAt}
 use Rattle.terms.specs.Terms.{Term, var, node, apply, only}
 use Rattle.terms.specs.Unifiers.{Subst, compose}
 use Rattle.terms.proofs.TermLaws.{apply-var, apply-apply, absorbs, only-self, only-absent}
-use Rattle.terms.proofs.SameLaws.{sameLabel-true}
 use Rattle.heaps.specs.Spelling.{labelOf, arityOf, run, spell}
 use Rattle.heaps.specs.Binding.{bind}
 use Rattle.heaps.specs.Ends.{end}
@@ -21,7 +18,6 @@ use Rattle.heaps.proofs.EndLaws.{spell-end}
 use Rattle.heaps.proofs.BindLaws.{spell-bind}
 use Rattle.heaps.proofs.BindReads.{run-apply}
 use Rattle.calls.specs.Unifying.{Pair, words, rows}
-use Rattle.unifying.specs.Merging.{sameFunctor, arguments}
 
 abbrev pub Reading : Type 0
 Reading = Cell → Term
@@ -44,16 +40,6 @@ solution-back t u s f g = (compose (f .0) (g .0), λ d. g .1 d ∙ ap (apply (g 
 -- a solution reads alike what the tables spell alike
 pub solution-alike : (t : Tables) (s : Reading) → Solution t s → (c d : Cell) → spell (t .heap) c ≡ spell (t .heap) d → s c ≡ s d
 solution-alike t s f c d e = f .1 c ∙ ap (apply (f .0)) e ∙ sym (f .1 d)
-
-pub solution-runs : (t : Tables) (s : Reading) → Solution t s → (i j k : ℕ) → run (spell (t .heap)) i k ≡ run (spell (t .heap)) j k → run s i k ≡ run s j k
-solution-runs t s f i j k e = one i ∙ ap (apply (f .0)) e ∙ sym (one j)
-  where
-    one : (n : ℕ) → run s n k ≡ apply (f .0) (run (spell (t .heap)) n k)
-    one n = ap (λ (q : Reading). run q n k) (fun-ext (f .1)) ∙ sym (run-apply (f .0) (spell (t .heap)) n k)
-
-pub solution-equal : (t : Tables) (s : Reading) → Solution t s → (p : Pair) → Equal (spell (t .heap)) p → Equal s p
-solution-equal t s f (words a b) e = solution-alike t s f a b e
-solution-equal t s f (rows i j k) e = solution-runs t s f i j k e
 
 module _ (t : Tables) (r : Rules t) (s : Reading) (f : Solution t s) where
   pub solution-end : (c : Cell) → s (end t c) ≡ s c

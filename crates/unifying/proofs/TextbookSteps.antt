@@ -2,16 +2,15 @@
 -- are done in steps that change nothing.
 use mathlib.Core.Path.{_≡_, refl, ap, ap₂, _∙_, sym, subst}
 use mathlib.Core.Bool.{Bool, true, false, cond}
-use mathlib.Core.Logic.{_⊎_, inl, inr, ⊎-elim}
 use mathlib.Core.List.{List, [], _∷_}
-use mathlib.Core.Option.{Option, some, none}
+use mathlib.Core.Option.{some, none}
 use Prim.Native.Nat.{ℕ, zero, suc, _<_, _≤_}
 use native.Mathlib.Omega.{arith}
 use Rattle.std.proofs.shelf.Tests.{both-ways, eq-eqb, and-parts}
 use Rattle.cells.specs.declared.cell.Cell.{Cell}
 use Rattle.cells.specs.declared.cell.Cell.the-variants.{Reference, Pointer, Functor, Atom, Integer}
 use Rattle.tables.specs.Tables.{Tables, cellAt}
-use Rattle.terms.specs.Terms.{Term, Terms, node, cons, occurs, size}
+use Rattle.terms.specs.Terms.{node, occurs, size}
 use Rattle.heaps.specs.Spelling.{labelOf, arityOf, run, spell}
 use Rattle.heaps.specs.Ends.{end}
 use Rattle.heaps.specs.Rules.{Rules}
@@ -20,7 +19,7 @@ use Rattle.heaps.proofs.SpellLaws.{spell-unbound}
 use Rattle.calls.specs.Unifying.{Pair, words, rows, Next, stop, go, meet, step, after, solve}
 use Rattle.calls.proofs.UnifyPairs.{PairKeeps}
 use Rattle.unifying.specs.Merging.{isPointer, bothPointers, sameFunctor, arguments}
-use Rattle.unifying.proofs.SolutionLaws.{Reading, Solution, Equal, solution-self, solution-pointer}
+use Rattle.unifying.proofs.SolutionLaws.{Reading, Solution, solution-self, solution-pointer}
 use Rattle.unifying.proofs.Meetings.{Met, same-variable, same-constant, binding, failing}
 use Rattle.unifying.proofs.WordsMeet.{Rest, behind, behind-row, met, ends-alike, reads-first, reads-second, second-structure, functors-alike, arguments-keep, row-keeps}
 

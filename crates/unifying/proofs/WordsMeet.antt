@@ -1,20 +1,18 @@
 -- What one step of a walk does to two words: where it goes on, the two words spell the same afterwards, every solution that reads
 -- them alike stays one, and all that may stand in a register still may; where it stops, no solution reads the two words alike.
 -- Two words that end at structures with the same functor have their arguments left to do.
-use mathlib.Core.Path.{_≡_, refl, ap, _∙_, sym, subst, subst₂}
-use mathlib.Core.Bool.{Bool, true, false}
-use mathlib.Core.List.{List, [], _∷_}
+use mathlib.Core.Path.{_≡_, refl, ap, ap₂, _∙_, sym, subst, subst₂}
+use mathlib.Core.Bool.{true, false}
+use mathlib.Core.List.{List, _∷_}
 use mathlib.Core.Option.{Option, none}
-use Prim.Native.Nat.{ℕ, zero, suc, _+_, _<_}
+use Prim.Native.Nat.{ℕ, suc, _+_, _<_}
 use native.Mathlib.Omega.{arith}
 use Rattle.cells.specs.declared.cell.Cell.{Cell}
 use Rattle.cells.specs.declared.cell.Cell.the-variants.{Reference, Pointer, Functor, Atom, Integer}
-use Rattle.cells.specs.Cells.{inRange}
-use Rattle.tables.specs.Tables.{Tables, used, cellAt}
+use Rattle.tables.specs.Tables.{Tables, cellAt}
 use Rattle.terms.specs.Terms.{Label, named, whole, functor, node}
 use Rattle.terms.proofs.SameLaws.{sameLabel-true, sameLabel-false}
 use Rattle.heaps.specs.Lists.{Each}
-use Rattle.heaps.specs.Leads.{isFunctor}
 use Rattle.heaps.specs.Spelling.{labelOf, arityOf, run, spell}
 use Rattle.heaps.specs.Binding.{bind}
 use Rattle.heaps.specs.Ends.{end}
@@ -148,7 +146,7 @@ module _ (t : Tables) (st : Stands t) (a b : Cell) (ka : Keeps t a) (kb : Keeps 
       arguments-keep = λ j lt. (argument t st p j keeps-first lt, argument t st q j keeps-second (let e = arity in omega arith))
 
       pub second-structure : (s : Reading) → Solution t s → s (Pointer q) ≡ node (labelOf (cellAt t p)) (run s (suc q) (arityOf (cellAt t p)))
-      second-structure s f = solution-pointer t (st .0) s f q ∙ subst₂ (λ (l : Label) (k : ℕ). node (labelOf (cellAt t q)) (run s (suc q) (arityOf (cellAt t q))) ≡ node l (run s (suc q) k)) (sym label) (sym arity) refl
+      second-structure s f = solution-pointer t (st .0) s f q ∙ ap₂ (λ (l : Label) (k : ℕ). node l (run s (suc q) k)) (sym label) (sym arity)
 
     -- structures that a solution reads alike have the same functor
     pub functors-alike : (s : Reading) → Solution t s → s a ≡ s b → sameFunctor t p q ≡ false → ⊥
@@ -159,7 +157,10 @@ module _ (t : Tables) (st : Stands t) (a b : Cell) (ka : Keeps t a) (kb : Keeps 
 
 -- one argument of two rows, and the others
 pub row-keeps : (t : Tables) (i j k : ℕ) → PairKeeps t (rows i j (suc k)) → PairKeeps t (words (Reference i) (Reference j)) × PairKeeps t (rows (suc i) (suc j) k)
-row-keeps t i j k v = (at i j (i + 0) (j + 0) (omega arith) (omega arith) (v 0 (omega arith)), λ m lt. at (suc i + m) (suc j + m) (i + suc m) (j + suc m) (omega arith) (omega arith) (v (suc m) (omega arith)))
+row-keeps t i j k v = (
+  at i j (i + 0) (j + 0) (omega arith) (omega arith) (v 0 (omega arith)),
+  λ m lt. at (suc i + m) (suc j + m) (i + suc m) (j + suc m) (omega arith) (omega arith) (v (suc m) (omega arith)),
+)
   where
     at : (x y v w : ℕ) → v ≡ x → w ≡ y → Keeps t (Reference v) × Keeps t (Reference w) → Keeps t (Reference x) × Keeps t (Reference y)
     at x y v w e g p = subst₂ (λ (m n : ℕ). Keeps t (Reference m) × Keeps t (Reference n)) e g p

@@ -14,7 +14,7 @@ use Rattle.tables.specs.Tables.{Tables, cellAt}
 use Rattle.terms.specs.Terms.{sameLabel}
 use Rattle.heaps.specs.Spelling.{labelOf, arityOf}
 use Rattle.heaps.specs.Ends.{end}
-use Rattle.calls.specs.Unifying.{Pair, words, rows, Next, stop, go, meet}
+use Rattle.calls.specs.Unifying.{Pair, words, rows, stop, go, meet}
 
 -- two structures set equal, each named by its functor's cell
 abbrev pub Merge : Type 0
