@@ -34,28 +34,32 @@ abbrev pub wrongSlip : Option Draft → Draft → Bool
 wrongSlip none slip = true
 wrongSlip (some half) slip = not (sameDraft half slip)
 
+-- The tests of a call, in their order.
 -- half: what a slip of the half-made structure would say, if there is one; points: the number of choice points;
 -- lacks s i: Xs is no structure, or has no argument i
+abbrev pub tests : Option Draft → ℕ → (ℕ → ℕ → Bool) → Call → List (Refusal × Bool)
+tests half points lacks (Var d) = (HalfMade, isSome half) ∷ (NoRegister, noRegister d) ∷ []
+tests half points lacks (SetAtom d n) = (HalfMade, isSome half) ∷ (NoRegister, noRegister d) ∷ (OutOfRange, not (inRange (Atom n))) ∷ []
+tests half points lacks (Int d z) = (HalfMade, isSome half) ∷ (NoRegister, noRegister d) ∷ (OutOfRange, not (inRange (Integer z))) ∷ []
+tests half points lacks (Move d s) = (HalfMade, isSome half) ∷ (NoRegister, noRegister d || noRegister s) ∷ []
+tests half points lacks (Look s) = (HalfMade, isSome half) ∷ (NoRegister, noRegister s) ∷ []
+tests half points lacks (Arg d s i) = (HalfMade, isSome half) ∷ (NoRegister, noRegister d || noRegister s) ∷ (NoArgument, lacks s i) ∷ []
+tests half points lacks (Same s t) = (HalfMade, isSome half) ∷ (NoRegister, noRegister s || noRegister t) ∷ []
+tests half points lacks (Unify s t) = (HalfMade, isSome half) ∷ (NoRegister, noRegister s || noRegister t) ∷ []
+tests half points lacks Open = (HalfMade, isSome half) ∷ (ChoicesFull, leb 64 points) ∷ []
+tests half points lacks Retry = (HalfMade, isSome half) ∷ (NoChoice, eqb points 0) ∷ []
+tests half points lacks Last = (HalfMade, isSome half) ∷ (NoChoice, eqb points 0) ∷ []
+tests half points lacks (Cut k) = (HalfMade, isSome half) ∷ (NoChoice, ltb points k) ∷ []
+tests half points lacks (Start name arity) = (HalfMade, isSome half) ∷ (OutOfRange, not (inRange (Functor name arity))) ∷ []
+tests half points lacks (Put slip s) = (WrongSlip, wrongSlip half slip) ∷ (NoRegister, noRegister s) ∷ (WrongCount, eqb (slip .missing) 0) ∷ []
+tests half points lacks (Hole slip) = (WrongSlip, wrongSlip half slip) ∷ (WrongCount, eqb (slip .missing) 0) ∷ []
+tests half points lacks (Done slip d) = (WrongSlip, wrongSlip half slip) ∷ (NoRegister, noRegister d) ∷ (WrongCount, ltb 0 (slip .missing)) ∷ []
+tests half points lacks (Void slip) = (WrongSlip, wrongSlip half slip) ∷ []
+tests half points lacks Collect = (HalfMade, isSome half) ∷ []
+tests half points lacks Usage = []
+
 abbrev pub refusal : Option Draft → ℕ → (ℕ → ℕ → Bool) → Call → Option Refusal
-refusal half points lacks (Var d) = firstHit ((HalfMade, isSome half) ∷ (NoRegister, noRegister d) ∷ [])
-refusal half points lacks (SetAtom d n) = firstHit ((HalfMade, isSome half) ∷ (NoRegister, noRegister d) ∷ (OutOfRange, not (inRange (Atom n))) ∷ [])
-refusal half points lacks (Int d z) = firstHit ((HalfMade, isSome half) ∷ (NoRegister, noRegister d) ∷ (OutOfRange, not (inRange (Integer z))) ∷ [])
-refusal half points lacks (Move d s) = firstHit ((HalfMade, isSome half) ∷ (NoRegister, noRegister d || noRegister s) ∷ [])
-refusal half points lacks (Look s) = firstHit ((HalfMade, isSome half) ∷ (NoRegister, noRegister s) ∷ [])
-refusal half points lacks (Arg d s i) = firstHit ((HalfMade, isSome half) ∷ (NoRegister, noRegister d || noRegister s) ∷ (NoArgument, lacks s i) ∷ [])
-refusal half points lacks (Same s t) = firstHit ((HalfMade, isSome half) ∷ (NoRegister, noRegister s || noRegister t) ∷ [])
-refusal half points lacks (Unify s t) = firstHit ((HalfMade, isSome half) ∷ (NoRegister, noRegister s || noRegister t) ∷ [])
-refusal half points lacks Open = firstHit ((HalfMade, isSome half) ∷ (ChoicesFull, leb 64 points) ∷ [])
-refusal half points lacks Retry = firstHit ((HalfMade, isSome half) ∷ (NoChoice, eqb points 0) ∷ [])
-refusal half points lacks Last = firstHit ((HalfMade, isSome half) ∷ (NoChoice, eqb points 0) ∷ [])
-refusal half points lacks (Cut k) = firstHit ((HalfMade, isSome half) ∷ (NoChoice, ltb points k) ∷ [])
-refusal half points lacks (Start name arity) = firstHit ((HalfMade, isSome half) ∷ (OutOfRange, not (inRange (Functor name arity))) ∷ [])
-refusal half points lacks (Put slip s) = firstHit ((WrongSlip, wrongSlip half slip) ∷ (NoRegister, noRegister s) ∷ (WrongCount, eqb (slip .missing) 0) ∷ [])
-refusal half points lacks (Hole slip) = firstHit ((WrongSlip, wrongSlip half slip) ∷ (WrongCount, eqb (slip .missing) 0) ∷ [])
-refusal half points lacks (Done slip d) = firstHit ((WrongSlip, wrongSlip half slip) ∷ (NoRegister, noRegister d) ∷ (WrongCount, ltb 0 (slip .missing)) ∷ [])
-refusal half points lacks (Void slip) = firstHit ((WrongSlip, wrongSlip half slip) ∷ [])
-refusal half points lacks Collect = firstHit ((HalfMade, isSome half) ∷ [])
-refusal half points lacks Usage = none
+refusal half points lacks c = firstHit (tests half points lacks c)
 
 -- the cells that a call takes
 abbrev pub cellsNeeded : Call → ℕ

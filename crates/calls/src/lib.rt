@@ -1,4 +1,5 @@
 // The calls of a store and their answers.
+pub mod keeping;
 pub mod unifying;
 
 use cells::Refusal;
@@ -45,9 +46,5 @@ pub enum Answer {
     Sees(Seen),
     Tells(Verdict),
     Hands(Draft),
-    Counts {
-        used: u64,
-        entries: u64,
-        points: u64,
-    },
+    Counts { used: u64, entries: u64, points: u64 },
 }

@@ -19,7 +19,7 @@ different-prop : (xs : List ℕ) → IsProp (Different xs)
 different-prop [] = Unit-prop
 different-prop (x ∷ xs) = ×-prop (Bool-set _ _) (different-prop xs)
 
-word-prop : (h : Heap) (n : ℕ) (c : Cell) → IsProp (WordKeeps h n c)
+pub word-prop : (h : Heap) (n : ℕ) (c : Cell) → IsProp (WordKeeps h n c)
 word-prop h n (Reference m) = ×-prop le-prop (Bool-set _ _)
 word-prop h n (Pointer m) = ×-prop le-prop (Bool-set _ _)
 word-prop h n (Functor name arity) = ⊥-prop
