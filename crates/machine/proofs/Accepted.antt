@@ -1,13 +1,13 @@
 -- Each call that neither side refuses acts alike on both.
-use mathlib.Core.Path.{_≡_, refl, ap, _∙_, sym}
+use mathlib.Core.Path.{_≡_, refl}
 use mathlib.Core.Bool.{Bool, true, false, cond, not, _&&_}
-use mathlib.Core.List.{List, [], _∷_}
+use mathlib.Core.List.{List, []}
 use mathlib.Core.Option.{Option, some, none}
-use Prim.Native.Nat.{ℕ, suc, _+_, _<_, _≤_}
+use Prim.Native.Nat.{ℕ, _+_, _<_, _≤_}
 use native.Mathlib.Omega.{arith}
 use lib.Dec.{eqb, leb, ltb}
 use lib.ListN.{length}
-use Rattle.std.proofs.shelf.Tests.{both-ways, not-false, and-parts, eqb-true, eqb-false, leb-false, ltb-false}
+use Rattle.std.proofs.shelf.Tests.{not-false, and-parts, eqb-true, eqb-false, leb-false, ltb-false}
 use Rattle.cells.specs.declared.refusal.Refusal.{Refusal}
 use Rattle.cells.specs.declared.refusal.Refusal.the-variants.{HalfMade, WrongSlip}
 use Rattle.cells.specs.declared.cell.Cell.the-variants.{Functor, Atom, Integer}
@@ -21,7 +21,6 @@ use Rattle.calls.specs.declared.Call.the-variants.{Var, Atom as SetAtom, Int, M
 use Rattle.calls.specs.Refusals.{noRegister, sameDraft, refusal, cellsNeeded}
 use Rattle.calls.specs.Steps as Store
 use Rattle.calls.specs.Steps.{State, Half}
-use Rattle.machine.specs.Machine as Tree
 use Rattle.machine.specs.Machine.{Level, Begun, Machine}
 use Rattle.machine.specs.Runs.{isCollect}
 use Rattle.machine.proofs.Related.{Related, HalfRelated, ByHalf, Relates}

@@ -1,5 +1,5 @@
 -- What is to be shown of a call that neither side refuses: the answers compare, and the states agree afterwards.
-use mathlib.Core.List.{List, []}
+use mathlib.Core.List.{List}
 use mathlib.Core.Option.{some, none}
 use Prim.Native.Nat.{ℕ}
 use Rattle.tables.specs.Tables.{Tables}

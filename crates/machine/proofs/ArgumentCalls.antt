@@ -17,7 +17,7 @@ use Rattle.terms.specs.Unifiers.{Subst}
 use Rattle.terms.proofs.TermLaws.{absorbs-tree}
 use Rattle.terms.proofs.RowLaws.{apply-pick}
 use Rattle.heaps.specs.Leads.{heapOf, unbound}
-use Rattle.heaps.specs.Spelling.{arityOf, run, spell, spelled}
+use Rattle.heaps.specs.Spelling.{arityOf, run, spell}
 use Rattle.heaps.specs.Ends.{end}
 use Rattle.heaps.specs.Rules.{WordKeeps, Rules}
 use Rattle.heaps.specs.LevelLaws.{Stands, Keeps}
@@ -152,9 +152,6 @@ fixed-argument σ (node l ts) (suc i) e = test (ltb i (long ts))
     test false = refl
 
 module _ (t : Tables) (n : ℕ) (now : Level) (saved : List Level) (r : Related t [] n now nil saved) (s i : ℕ) where
-  term : Term
-  term = apply (now .values) (pick (now .registers) s)
-
   spells-argument : Spelt t (Store.argument t s i) (argumentOf (spell (t .heap) (register t s)) i)
   spells-argument = argument-end t (r .stands) (register t s) (keeps-register t s (r .stands) .0) i
 

@@ -1,16 +1,16 @@
 -- Opening, going back to and cutting choice points, and a collection, keep the agreement of every level.
 use mathlib.Core.Path.{_≡_, refl, ap, _∙_, sym, subst, subst₂}
 use mathlib.Core.List.{List, [], _∷_}
-use Prim.Native.Nat.{ℕ, zero, suc, _+_, _-_, _<_, _≤_}
+use Prim.Native.Nat.{ℕ, zero, suc, _+_, _-_, _<_}
 use native.Mathlib.Omega.{arith}
 use lib.ListN.{length, getD, drop}
 use Rattle.std.proofs.shelf.Lists.{length-drop, getD-drop}
 use Rattle.tables.specs.Tables.{Choice, Tables, pushChoice, keepChoices}
-use Rattle.terms.specs.Terms.{Terms, nil}
+use Rattle.terms.specs.Terms.{nil}
 use Rattle.terms.specs.Renamings.{Alike}
 use Rattle.terms.proofs.AlikeLaws.{alike-refl, alike-sym, alike-trans}
 use Rattle.heaps.specs.Spelling.{spelled}
-use Rattle.heaps.specs.Levels.{lastOf, last, retry, undo}
+use Rattle.heaps.specs.Levels.{lastOf, last, undo}
 use Rattle.heaps.specs.LevelLaws.{HasChoice}
 use Rattle.heaps.proofs.LastLaws.{newest, last-pushChoice}
 use Rattle.heaps.proofs.CutLaws.{undo-keepChoices}
@@ -19,7 +19,7 @@ use Rattle.heaps.proofs.UndoRules.{retry-last, stands-last}
 use Rattle.collectors.specs.Collectors.{Shows}
 use Rattle.calls.specs.declared.Call.the-variants.{Open, Retry, Last, Cut, Collect}
 use Rattle.machine.specs.Machine.{Level}
-use Rattle.machine.proofs.Related.{Spells, Older, Related, noLevel, alike-registers, alike-alone}
+use Rattle.machine.proofs.Related.{Spells, Related, noLevel, alike-registers, alike-alone}
 use Rattle.machine.proofs.Acted.{Acted, idle, machine}
 
 -- A level that spells terms alike spells the machine's as well.

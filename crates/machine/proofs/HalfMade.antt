@@ -3,7 +3,7 @@ use mathlib.Core.Path.{_≡_, refl, ap, ap₂, _∙_, sym, subst, subst₂}
 use mathlib.Core.Bool.{true}
 use mathlib.Core.List.{List, [], _∷_, _++_}
 use mathlib.Core.Logic.{_⊎_, inl, inr}
-use Prim.Native.Nat.{ℕ, zero, suc, pred, _+_, _-_, _<_, _≤_}
+use Prim.Native.Nat.{ℕ, suc, pred, _+_, _<_, _≤_}
 use native.Mathlib.Omega.{arith}
 use lib.ListN.{length, length-append, set, replicate}
 use Rattle.std.proofs.shelf.Lists.{append-assoc, getD-at, set-at}
@@ -96,67 +96,78 @@ module _ (t : Tables) (h : Half) (n : ℕ) (now : Level) (saved : List Level) (b
   pub place-is : nextArgument t h ≡ place
   place-is = let a = ap arityOf functor-cell in let p = r .at-top in let c = r .counted in omega arith
 
-  pub write-acted : (w : Cell) (u : Term) (new : ℕ) → 0 < h .missing
-      → Keeps (r .base) w ⊎ (w ≡ Reference place) → Below (suc place) (spell (r .base .heap) w) → Below (n + new) (apply (now .values) u)
-      → Alike (push (shown (r .base) (r .written)) (spell (r .base .heap) w)) (push (resolved now (b .arguments)) (apply (now .values) u))
-      → Compared (Store.write (making t h) w h .0) (Tree.write (maker n now saved b) u new b .0)
-      × Relates (Store.write (making t h) w h .1) (Tree.write (maker n now saved b) u new b .1)
-  write-acted w u new lt k bw bu a = (ap Hands draft, half)
-    where
-      words : List Cell
-      words = r .written ++ (w ∷ [])
+  -- The word w and the term u become the next argument, for which the machine takes so many new variables.
+  module _ (w : Cell) (u : Term) (new : ℕ) (lt : 0 < h .missing) where
+    abbrev words : List Cell
+    words = r .written ++ (w ∷ [])
 
-      missing-is : h .missing ≡ suc (pred (h .missing))
-      missing-is = omega arith
+    abbrev terms : Terms
+    terms = push (b .arguments) u
 
-      length-words : length words ≡ suc (length (r .written))
-      length-words = length-append (r .written) (w ∷ []) ∙ (let z : length (r .written) + 1 ≡ suc (length (r .written)) = omega arith in z)
+    abbrev left : Half
+    left = record { at = h .at; missing = pred (h .missing) }
 
-      tables-are : setCell t (nextArgument t h) w ≡ newStructure (r .base) (b .name) (b .arity) (words ++ replicate (pred (h .missing)) (Atom 0))
-      tables-are =
-          ap₂ (λ (x : Tables) (i : ℕ). setCell x i w) (r .structure ∙ ap (λ (k : ℕ). newStructure (r .base) (b .name) (b .arity) (r .written ++ replicate k (Atom 0))) missing-is) place-is
-          ∙ ap (withHeap (r .base)) (set-next (r .base .heap) (r .written) (replicate (pred (h .missing)) (Atom 0)) (Functor (b .name) (b .arity)) (Atom 0) w place refl)
+    abbrev more : Begun
+    more = record { name = b .name; arity = b .arity; arguments = terms }
 
-      shown-more : shown (r .base) words ≡ push (shown (r .base) (r .written)) (spell (r .base .heap) w)
-      shown-more = ap (cons (node (named 0) (spelled (r .base)))) (row-push (spell (r .base .heap)) (r .written) w)
+    abbrev after : Tables
+    after = setCell t (nextArgument t h) w
 
-      resolved-more : resolved now (push (b .arguments) u) ≡ push (resolved now (b .arguments)) (apply (now .values) u)
-      resolved-more = ap (cons (node (named 0) (apply (now .values) (now .registers)))) (apply-joined (now .values) (b .arguments) (cons u nil))
+    missing-is : h .missing ≡ suc (pred (h .missing))
+    missing-is = omega arith
 
-      rest : Half
-      rest = record { at = h .at; missing = pred (h .missing) }
+    length-words : length words ≡ suc (length (r .written))
+    length-words = length-append (r .written) (w ∷ []) ∙ (let z : length (r .written) + 1 ≡ suc (length (r .written)) = omega arith in z)
 
-      more : Begun
-      more = record { name = b .name; arity = b .arity; arguments = push (b .arguments) u }
+    structure-after : after ≡ newStructure (r .base) (b .name) (b .arity) (words ++ replicate (pred (h .missing)) (Atom 0))
+    structure-after =
+        ap₂ (λ (x : Tables) (i : ℕ). setCell x i w) (r .structure ∙ ap (λ (k : ℕ). newStructure (r .base) (b .name) (b .arity) (r .written ++ replicate k (Atom 0))) missing-is) place-is
+        ∙ ap (withHeap (r .base)) (set-next (r .base .heap) (r .written) (replicate (pred (h .missing)) (Atom 0)) (Functor (b .name) (b .arity)) (Atom 0) w place refl)
 
-      half : HalfRelated (setCell t (nextArgument t h) w) rest (n + new) now saved more
-      half = record {
-        base = r .base;
-        written = words;
-        structure = tables-are;
-        at-top = r .at-top;
-        counted = let c = r .counted in let l = length-words in let m = missing-is in omega arith;
-        as-many = long-push (b .arguments) u ∙ ap suc (r .as-many) ∙ sym length-words;
-        ranged = r .ranged;
-        room = r .room;
-        keeps = arguments-push (r .base) (suc (used (r .base))) (r .written) w (r .keeps) (elim k [ inl p ↦ inl p | inr e ↦ inr (e ∙ ap Reference (omega arith)) ]);
-        bounded = subst₂ Below (let z : suc place ≡ suc (used (r .base) + length words) = (let l = length-words in omega arith) in z) (sym shown-more)
-            (below-joined (suc place) (shown (r .base) (r .written)) (cons _ nil) (below-more place (suc place) (omega arith) (shown (r .base) (r .written)) (r .bounded)) (bw, tt));
-        related = record {
-          stands = r .related .stands;
-          present = record {
-            settled = r .related .present .settled;
-            beyond = λ x le. r .related .present .beyond x (omega arith);
-            below = subst (Below (n + new)) (sym resolved-more) (below-joined (n + new) (resolved now (b .arguments)) (cons _ nil)
-                (below-more n (n + new) (omega arith) (resolved now (b .arguments)) (r .related .present .below)) (bu, tt));
-            alike = subst₂ Alike (sym shown-more) (sym resolved-more) a;
-          };
-          older = older-more n (n + new) (omega arith) (r .related .older);
-        };
-      }
+    shown-more : shown (r .base) words ≡ push (shown (r .base) (r .written)) (spell (r .base .heap) w)
+    shown-more = ap (cons (node (named 0) (spelled (r .base)))) (row-push (spell (r .base .heap)) (r .written) w)
 
-      cell-after : cellAt (setCell t (nextArgument t h) w) (h .at) ≡ Functor (b .name) (b .arity)
-      cell-after = ap₂ (λ (x : Tables) (i : ℕ). cellAt x i) tables-are (r .at-top) ∙ getD-at (r .base .heap) (Functor (b .name) (b .arity)) _ (Reference (used (r .base))) (used (r .base)) refl
+    resolved-more : resolved now terms ≡ push (resolved now (b .arguments)) (apply (now .values) u)
+    resolved-more = ap (cons (node (named 0) (apply (now .values) (now .registers)))) (apply-joined (now .values) (b .arguments) (cons u nil))
 
-      draft : Store.draftOf (setCell t (nextArgument t h) w) rest ≡ Tree.draftOf more
-      draft = draft-same (ap nameOf cell-after) (ap arityOf cell-after) (let c = r .counted in let l = long-push (b .arguments) u in let m = r .as-many in let k = missing-is in omega arith)
+    related-after : Below (n + new) (apply (now .values) u)
+        → Alike (push (shown (r .base) (r .written)) (spell (r .base .heap) w)) (push (resolved now (b .arguments)) (apply (now .values) u))
+        → Related (r .base) words (n + new) now terms saved
+    related-after bu a = record {
+      stands = r .related .stands;
+      present = record {
+        settled = r .related .present .settled;
+        beyond = λ x le. r .related .present .beyond x (omega arith);
+        below = subst (Below (n + new)) (sym resolved-more) (below-joined (n + new) (resolved now (b .arguments)) (cons (apply (now .values) u) nil)
+            (below-more n (n + new) (omega arith) (resolved now (b .arguments)) (r .related .present .below)) (bu, tt));
+        alike = subst₂ Alike (sym shown-more) (sym resolved-more) a;
+      };
+      older = older-more n (n + new) (omega arith) (r .related .older);
+    }
+
+    half-after : Keeps (r .base) w ⊎ (w ≡ Reference place) → Below (suc place) (spell (r .base .heap) w) → Related (r .base) words (n + new) now terms saved
+        → HalfRelated after left (n + new) now saved more
+    half-after k bw related = record {
+      base = r .base;
+      written = words;
+      structure = structure-after;
+      at-top = r .at-top;
+      counted = let c = r .counted in let l = length-words in let m = missing-is in omega arith;
+      as-many = long-push (b .arguments) u ∙ ap suc (r .as-many) ∙ sym length-words;
+      ranged = r .ranged;
+      room = r .room;
+      keeps = arguments-push (r .base) (suc (used (r .base))) (r .written) w (r .keeps) (elim k [ inl p ↦ inl p | inr e ↦ inr (e ∙ ap Reference (omega arith)) ]);
+      bounded = subst₂ Below (let z : suc place ≡ suc (used (r .base) + length words) = (let l = length-words in omega arith) in z) (sym shown-more)
+          (below-joined (suc place) (shown (r .base) (r .written)) (cons (spell (r .base .heap) w) nil) (below-more place (suc place) (omega arith) (shown (r .base) (r .written)) (r .bounded)) (bw, tt));
+      related = related;
+    }
+
+-- The next argument is written on both sides, and the slips for the rest say the same.
+pub write-acted : (t : Tables) (h : Half) (n : ℕ) (now : Level) (saved : List Level) (b : Begun) (r : HalfRelated t h n now saved b) (w : Cell) (u : Term) (new : ℕ) → 0 < h .missing
+    → Keeps (r .base) w ⊎ (w ≡ Reference (place t h n now saved b r)) → Below (suc (place t h n now saved b r)) (spell (r .base .heap) w) → Below (n + new) (apply (now .values) u)
+    → Alike (push (shown (r .base) (r .written)) (spell (r .base .heap) w)) (push (resolved now (b .arguments)) (apply (now .values) u))
+    → Compared (Store.write (making t h) w h .0) (Tree.write (maker n now saved b) u new b .0)
+    × Relates (Store.write (making t h) w h .1) (Tree.write (maker n now saved b) u new b .1)
+write-acted t h n now saved b r w u new lt k bw bu a =
+    let half = half-after t h n now saved b r w u new lt k bw (related-after t h n now saved b r w u new lt bu a) in
+    (ap Hands (drafts-same _ _ _ _ _ _ half), half)

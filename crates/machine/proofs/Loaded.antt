@@ -6,7 +6,7 @@ use native.Mathlib.Omega.{arith}
 use lib.ListN.{length, getD, drop}
 use Rattle.std.proofs.shelf.Lists.{length-take}
 use Rattle.tables.specs.Tables.{Choice, Tables, used}
-use Rattle.terms.specs.Terms.{Terms, nil}
+use Rattle.terms.specs.Terms.{nil}
 use Rattle.terms.specs.Renamings.{Alike}
 use Rattle.terms.proofs.TermLaws.{apply-var}
 use Rattle.terms.proofs.AlikeLaws.{alike-refl}

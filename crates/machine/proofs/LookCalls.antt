@@ -2,26 +2,22 @@
 use mathlib.Core.Path.{_≡_, refl, ap, ap₂, _∙_, sym, subst, subst₂}
 use mathlib.Core.Bool.{Bool, true, false}
 use mathlib.Core.List.{List, []}
-use Prim.Native.Nat.{ℕ, _<_}
-use native.Mathlib.Omega.{arith}
+use Prim.Native.Nat.{ℕ}
 use Rattle.std.proofs.shelf.Tests.{both-ways}
 use Rattle.cells.specs.declared.cell.Cell.{Cell}
 use Rattle.cells.specs.declared.cell.Cell.the-variants.{Reference, Pointer, Functor, Atom, Integer}
-use Rattle.cells.specs.declared.answer.Seen.{Seen}
-use Rattle.cells.specs.declared.answer.Seen.the-variants.{Structure}
-use Rattle.cells.specs.Cells.{functorValue}
 use Rattle.tables.specs.Tables.{Tables, used, cellAt, register}
-use Rattle.terms.specs.Terms.{Sort, Tree, Term, Terms, var, node, nil, apply, pick, sameTree}
+use Rattle.terms.specs.Terms.{Term, Terms, var, node, nil, apply, pick, sameTree}
 use Rattle.terms.specs.Renamings.{rename, Alike}
 use Rattle.terms.proofs.RowLaws.{apply-pick}
 use Rattle.terms.proofs.AlikeLaws.{alike-sym}
 use Rattle.terms.proofs.SameLaws.{sameTree-true, sameTree-refl}
 use Rattle.heaps.specs.Leads.{heapOf, isFunctor}
-use Rattle.heaps.specs.Spelling.{labelOf, arityOf, run, spell, spelled}
+use Rattle.heaps.specs.Spelling.{arityOf, spell}
 use Rattle.heaps.specs.Ends.{end}
 use Rattle.heaps.specs.Rules.{WordKeeps, Rules}
 use Rattle.heaps.proofs.EndLaws.{end-ends, spell-end, end-keeps}
-use Rattle.heaps.proofs.SpellLaws.{spell-layer, spell-unbound, spell-pointer}
+use Rattle.heaps.proofs.SpellLaws.{spell-unbound, spell-pointer}
 use Rattle.heaps.proofs.KeptWords.{keeps-register}
 use Rattle.calls.specs.declared.Call.the-variants.{Look, Same}
 use Rattle.calls.specs.declared.Answer.the-variants.{Sees, Tells}
@@ -29,7 +25,7 @@ use Rattle.calls.specs.Steps.{nameOf, seenAt, verdict}
 use Rattle.machine.specs.Machine.{Level, seen}
 use Rattle.machine.proofs.Related.{Related, alike-made}
 use Rattle.machine.proofs.Acted.{Acted, idle, machine}
-use Rattle.machine.proofs.SetRegisters.{terms, alike-now, register-spells, term-at}
+use Rattle.machine.proofs.SetRegisters.{alike-now, register-spells, term-at}
 
 -- a cell that is a functor
 pub functor-is : (c : Cell) → isFunctor c ≡ true → c ≡ Functor (nameOf c) (arityOf c)

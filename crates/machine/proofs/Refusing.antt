@@ -1,13 +1,11 @@
 -- Both sides refuse the same calls, with the same refusal; and a call that is carried out never answers that cells are wanting.
-use mathlib.Core.Path.{_≡_, refl, ap, ap₂, _∙_, sym, fun-ext}
-use mathlib.Core.Bool.{Bool, true, false}
-use mathlib.Core.List.{List, [], _∷_}
+use mathlib.Core.Path.{_≡_, refl, ap, ap₂, _∙_, fun-ext}
+use mathlib.Core.Bool.{Bool, false}
 use mathlib.Core.Option.{Option, some, none}
 use Prim.Native.Nat.{ℕ}
 use lib.ListN.{length}
 use Rattle.cells.specs.declared.refusal.Refusal.{Refusal}
-use Rattle.tables.specs.Tables.{Choice, Tables, cellAt, register}
-use Rattle.terms.specs.Terms.{nil}
+use Rattle.tables.specs.Tables.{Tables, register}
 use Rattle.calls.specs.declared.Draft.{Draft}
 use Rattle.calls.specs.declared.Call.{Call}
 use Rattle.calls.specs.declared.Call.the-variants.{Var, Atom as SetAtom, Int, Move, Look, Arg, Same, Unify, Open, Retry, Last, Cut, Start, Put, Hole, Done, Void, Collect, Usage}
@@ -18,9 +16,9 @@ use Rattle.calls.specs.Unifying.{unifyWords}
 use Rattle.calls.specs.Steps as Store
 use Rattle.calls.specs.Steps.{State, Half}
 use Rattle.machine.specs.Machine as Tree
-use Rattle.machine.specs.Machine.{Level, Begun, Machine}
+use Rattle.machine.specs.Machine.{Begun, Machine}
 use Rattle.machine.specs.Runs.{isWant}
-use Rattle.machine.proofs.Related.{Related, HalfRelated, ByHalf, Relates}
+use Rattle.machine.proofs.Related.{ByHalf, Relates}
 use Rattle.machine.proofs.ArgumentCalls.{lacks-same}
 use Rattle.machine.proofs.HalfMade.{drafts-same}
 
@@ -46,10 +44,11 @@ half-lacks e points f g (Void slip) = refl
 half-lacks e points f g Collect = refl
 half-lacks e points f g Usage = refl
 
-abbrev treeRefusal : Call → Machine → Option Refusal
+-- the machine's refusal of a call
+abbrev pub treeRefusal : Call → Machine → Option Refusal
 treeRefusal c m = refusal (Tree.draft m) (length (m .saved)) (Tree.lacksArgument m) c
 
-pub refusals-same : (c : Call) (s : State) (m : Machine) → Relates s m → Store.refusalOf c s ≡ refusal (Tree.draft m) (length (m .saved)) (Tree.lacksArgument m) c
+pub refusals-same : (c : Call) (s : State) (m : Machine) → Relates s m → Store.refusalOf c s ≡ treeRefusal c m
 refusals-same c s m r = by (s .half) (m .half) r
   where
     by : (h : Option Half) (b : Option Begun) → ByHalf (s .tables) h (m .next) (m .now) (m .saved) b

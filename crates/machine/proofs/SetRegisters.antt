@@ -3,26 +3,24 @@
 use mathlib.Core.Path.{_≡_, refl, ap, ap₂, _∙_, sym, subst, subst₂}
 use mathlib.Core.Bool.{Bool, true, cond}
 use mathlib.Core.List.{List, [], _∷_, _++_}
-use Prim.Native.Nat.{ℕ, suc, _+_, _<_, _≤_}
+use Prim.Native.Nat.{ℕ, suc, _+_, _<_}
 use native.Mathlib.Omega.{arith}
 use lib.Dec.{eqb}
 use lib.IntN.{ℤ}
-use lib.ListN.{length}
 use Rattle.std.proofs.shelf.Tests.{eq-eqb, ne-eqb}
-use Rattle.std.proofs.shelf.Lists.{getD-push, getD-past}
+use Rattle.std.proofs.shelf.Lists.{getD-push}
 use Rattle.cells.specs.declared.cell.Cell.{Cell}
 use Rattle.cells.specs.declared.cell.Cell.the-variants.{Reference, Atom, Integer}
 use Rattle.cells.specs.Cells.{inRange}
 use Rattle.tables.specs.Tables.{Tables, used, register, withHeap, setRegister}
-use Rattle.terms.specs.Terms.{Label, named, whole, Sort, Tree, Term, Terms, var, node, nil, cons, apply, pick, change, row}
+use Rattle.terms.specs.Terms.{named, whole, Sort, Tree, Term, Terms, var, node, nil, cons, apply, pick, change, row}
 use Rattle.terms.specs.Renamings.{rename, Alike}
 use Rattle.terms.proofs.RowLaws.{apply-pick, apply-change, row-set, row-pick}
 use Rattle.heaps.specs.Lists.{Each}
-use Rattle.heaps.specs.Leads.{heapOf, unbound, refersTo}
+use Rattle.heaps.specs.Leads.{heapOf, refersTo}
 use Rattle.heaps.specs.Spelling.{spell, spelled}
 use Rattle.heaps.specs.Rules.{WordKeeps, Rules}
-use Rattle.heaps.specs.Levels.{last}
-use Rattle.heaps.specs.LevelLaws.{Stands, Keeps, HasChoice, newVariable}
+use Rattle.heaps.specs.LevelLaws.{Stands, Keeps, newVariable}
 use Rattle.heaps.proofs.FrameLaws.{spell-frame}
 use Rattle.heaps.proofs.SpellLaws.{spell-unbound}
 use Rattle.heaps.proofs.ReachedUsed.{words-reach-used}
@@ -35,7 +33,7 @@ use Rattle.calls.specs.declared.Call.the-variants.{Var, Atom as SetAtom, Int, M
 use Rattle.machine.specs.Machine.{Level}
 use Rattle.machine.proofs.Below.{Below, below-more, below-pick, below-change, below-agree}
 use Rattle.machine.proofs.SpellBelow.{spelled-below}
-use Rattle.machine.proofs.Related.{Spells, Related, Older, shown, resolved, alike-made, alike-registers, alike-alone, spells-more, older-more, older-same}
+use Rattle.machine.proofs.Related.{Related, resolved, alike-made, alike-registers, alike-alone, older-more, older-same}
 use Rattle.machine.proofs.Acted.{Acted, idle, machine}
 
 abbrev pub setLevel : Level → ℕ → Term → Level

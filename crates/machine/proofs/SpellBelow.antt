@@ -1,5 +1,5 @@
 -- A word that a register may hold spells a term whose variables are cells in use.
-use mathlib.Core.Path.{_≡_, refl, subst}
+use mathlib.Core.Path.{_≡_, refl}
 use mathlib.Core.Bool.{Bool, true, false, cond}
 use mathlib.Core.List.{List, [], _∷_}
 use Prim.Native.Nat.{ℕ, zero, suc, _+_, _<_, _≤_}
@@ -7,13 +7,12 @@ use native.Mathlib.Omega.{arith}
 use Rattle.cells.specs.declared.cell.Cell.{Cell}
 use Rattle.cells.specs.declared.cell.Cell.the-variants.{Reference, Pointer, Functor, Atom, Integer}
 use Rattle.tables.specs.Tables.{Tables, used}
-use Rattle.terms.specs.Terms.{Term, var, node, row}
+use Rattle.terms.specs.Terms.{Term, var, row}
 use Rattle.heaps.specs.Lists.{Each}
-use Rattle.heaps.specs.Leads.{Heap, heapOf, unbound, isFunctor}
-use Rattle.heaps.specs.Spelling.{labelOf, arityOf, run, same, spellBy, spell, spelled}
+use Rattle.heaps.specs.Leads.{Heap, heapOf, unbound}
+use Rattle.heaps.specs.Spelling.{arityOf, run, same, spellBy, spell, spelled}
 use Rattle.heaps.specs.Rules.{WordKeeps, Rules}
 use Rattle.heaps.proofs.Sound.{Sound, rules-sound, cell-keeps}
-use Rattle.std.proofs.shelf.Tests.{both-ways}
 use Rattle.machine.proofs.Below.{Below}
 
 run-below : (n : ℕ) (r : Cell → Term) (i k : ℕ) → ((j : ℕ) → i ≤ j → j < i + k → Below n (r (Reference j))) → Below n (run r i k)

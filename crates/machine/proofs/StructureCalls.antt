@@ -3,7 +3,7 @@ use mathlib.Core.Path.{_≡_, refl, ap, ap₂, _∙_, sym, subst, subst₂}
 use mathlib.Core.Bool.{true}
 use mathlib.Core.List.{List, [], _∷_, _++_}
 use mathlib.Core.Logic.{_⊎_, inl, inr}
-use Prim.Native.Nat.{ℕ, zero, suc, _+_, _<_, _≤_}
+use Prim.Native.Nat.{ℕ, suc, _+_, _<_, _≤_}
 use native.Mathlib.Omega.{arith}
 use lib.ListN.{length, length-append, replicate}
 use Rattle.std.proofs.shelf.Tests.{eq-eqb}
@@ -14,7 +14,7 @@ use Rattle.tables.specs.Tables.{Tables, used, cellAt, register, withHeap, cutHe
 use Rattle.terms.specs.Terms.{functor, Label, Term, Terms, var, node, nil, cons, apply, pick, change, row}
 use Rattle.terms.specs.Renamings.{rename, Alike}
 use Rattle.terms.proofs.RowLaws.{apply-pick, apply-change, row-pick}
-use Rattle.heaps.specs.Leads.{heapOf, unbound, refersTo}
+use Rattle.heaps.specs.Leads.{heapOf, refersTo}
 use Rattle.heaps.specs.Rules.{Rules}
 use Rattle.heaps.specs.Spelling.{run, spell, spelled}
 use Rattle.heaps.specs.LevelLaws.{Stands, Keeps, newStructure, ArgumentsKeep}
@@ -32,7 +32,7 @@ use Rattle.machine.specs.Runs.{Compared}
 use Rattle.machine.proofs.Below.{Below, below-more, below-pick}
 use Rattle.machine.proofs.SpellBelow.{spell-below}
 use Rattle.machine.proofs.Related.{Related, HalfRelated, Relates, shown, resolved, front, front-rename, rest, rest-rename, alike-made, alike-registers, alike-alone, older-same}
-use Rattle.machine.proofs.Acted.{Acted, machine, making, maker}
+use Rattle.machine.proofs.Acted.{Acted, making, maker}
 use Rattle.machine.proofs.SetRegisters.{terms, spell-grown, row-grown, alike-new, related-set}
 use Rattle.machine.proofs.ArgumentCalls.{read-cell}
 use Rattle.machine.proofs.HalfMade.{push, apply-joined, place, place-is, write-acted}

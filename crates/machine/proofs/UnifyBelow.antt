@@ -1,5 +1,5 @@
 -- Unification of terms whose variables are below a bound gives no other variable a value, and no value with another variable.
-use mathlib.Core.Path.{_≡_, refl, ap, _∙_}
+use mathlib.Core.Path.{_≡_, ap, _∙_}
 use mathlib.Core.Bool.{Bool, true, false, cond}
 use mathlib.Core.List.{List, [], _∷_}
 use mathlib.Core.Option.{Option, some, none}
@@ -8,7 +8,7 @@ use native.Mathlib.Omega.{arith}
 use lib.Dec.{eqb, ltb}
 use Rattle.std.proofs.shelf.Tests.{ne-eqb}
 use Rattle.terms.specs.Terms.{Sort, Tree, Term, Terms, var, node, nil, cons, apply, occurs, only, sameLabel}
-use Rattle.terms.specs.Unifiers.{Subst, compose}
+use Rattle.terms.specs.Unifiers.{Subst}
 use Rattle.terms.specs.Robinson.{Goal, both, each, applyGoals, Next, stop, go, bind, meet, meetRow, step, after, solve, unify}
 use Rattle.machine.proofs.Below.{Below, below-apply}
 
