@@ -1,13 +1,15 @@
-//! The text of tables: reading it, and loading it.
+//! The text of tables, and reading it.
 //! The format is in docs/IMAGES.md, its definition in `specs/Text.antt` and `specs/Reading.antt`.
 
+mod draft;
 pub mod fault;
-pub mod item;
-pub mod line;
-pub mod word;
+mod item;
+mod line;
+mod reader;
+mod reading;
+mod word;
 
 pub use fault::LineFault;
 pub use fault::LoadFault;
 pub use fault::WordFault;
-pub use item::Item;
-pub use line::Line;
+pub use reading::read;

@@ -8,6 +8,7 @@ ghost use Rattle.std.specs.declared.option.Option.the-variants.{Some, None};
 ghost use Rattle.std.specs.declared.result.Result.the-variants.{Ok, Err};
 ghost use Rattle.images.specs.Words.{Reads, orBad, bytesOf, partIn, kindIn, naturalIn, integerIn};
 ghost use Rattle.images.specs.Lines.{split, wordsOf, shaped, cellBy, ranged, cellIn, numberBy, numberIn, itemBy, itemIn, orBadLine, lineRead};
+ghost use Rattle.images.specs.Heads.{headRead};
 ghost use Rattle.images.specs.Cuts.{before, Spread};
 use super::fault::LineFault;
 use super::fault::LineFromWord;
@@ -16,6 +17,7 @@ use super::item::Item;
 use super::word::Kind;
 use super::word::Part;
 use super::word::Token;
+use super::word::same;
 use cells::Cell;
 
 // A line of an image without its byte 10, and its number, counted from 1.
@@ -171,11 +173,23 @@ impl<'a> Words<'a> {
 
 impl<'a> Line<'a> {
     // The place that the line fills, and what stands there.
-    pub fn item(self) -> Result<Item, LineFault>
+    pub(crate) fn item(self) -> Result<Item, LineFault>
         ensures { λ r. ⌜ r ≡ lineRead (self .entry .number) (now (self .entry .text)) ⌝ }
     {
         let words = cut_words(self)?;
         let item = words.item(self.number)?;
         Ok(item)
+    }
+
+    // The first line names the columns.
+    pub(crate) fn head(self) -> Result<(), LineFault>
+        ensures { λ r. ⌜ r ≡ headRead (self .entry .number) (now (self .entry .text)) ⌝ }
+    {
+        let _words = cut_words(self)?;
+        if same(self.text, b"part index kind value") {
+            Ok(())
+        } else {
+            Err(LineFault::BadLayout { line: self.number })
+        }
     }
 }
