@@ -1,9 +1,7 @@
 -- What every memory keeps: it has at most 4,096 cells, 4,096 trail entries and 64 choice points.
-use mathlib.Core.Path.{_≡_}
-use mathlib.Core.List.{map, reverse}
-use Prim.Native.Nat.{ℕ, _≤_}
+use Prim.Native.Nat.{_≤_}
 use native.Mathlib.Omega.{arith}
-use lib.ListN.{length, take, length-take}
+use lib.ListN.{length, length-take}
 use Rattle.std.proofs.shelf.Lists.{length-map}
 use Rattle.cells.specs.Cells.{cellOf}
 use Rattle.tables.specs.declared.memory.Memory.{Memory}

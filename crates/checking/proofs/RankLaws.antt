@@ -1,15 +1,13 @@
 -- Ranks that never fall along a lead show that no cell before c lies on a cycle, where the cells before c lead only to higher ranks.
 use mathlib.Core.Path.{_≡_, refl, ap, subst, sym, _∙_}
 use mathlib.Core.Logic.{_⊎_, inl, inr, _↔_}
-use mathlib.Core.Bool.{Bool, true, false}
+use mathlib.Core.Bool.{true, false}
 use mathlib.Core.List.{List}
-use Prim.Native.Nat.{ℕ, zero, suc, _+_, _<_, _≤_}
+use Prim.Native.Nat.{ℕ, _<_, _≤_}
 use native.Mathlib.Omega.{arith}
 use lib.ListN.{length}
-use Rattle.std.proofs.shelf.Tests.{both-ways, cases-lt, cases-eq, eq-eqb}
-use Rattle.std.specs.declared.option.Option.the-variants.{Some, None}
+use Rattle.std.proofs.shelf.Tests.{both-ways, cases-lt, eq-eqb}
 use Rattle.cells.specs.declared.cell.Cell.{Cell}
-use Rattle.cells.specs.declared.cell.Cell.the-variants.{Reference}
 use Rattle.tables.specs.Tables.{Tables, used}
 use Rattle.heaps.specs.Leads.{Heap, heapOf, LeadsBy, refersTo, unbound, Leads, Way, step, more}
 use Rattle.heaps.specs.RuleTests.{onCycle}

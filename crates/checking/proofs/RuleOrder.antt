@@ -1,16 +1,12 @@
 -- Testing the rules in their order: the first that finds a line gives the fault.
 use mathlib.Core.Path.{_≡_, refl, ap, sym, _∙_}
-use mathlib.Core.List.{List, []}
 use Prim.Native.Nat.{ℕ, _+_, _<_, _≤_}
-use native.Mathlib.Omega.{arith}
 use lib.ListN.{getD, drop}
 use Rattle.std.proofs.shelf.Lists.{at-drop-more}
 use Rattle.std.specs.declared.option.Option.{Option}
 use Rattle.std.specs.declared.option.Option.the-variants.{Some, None}
 use Rattle.tables.specs.Tables.{Tables}
-use Rattle.heaps.specs.declared.rule.Rule.{Rule}
 use Rattle.heaps.specs.declared.rule.Rule.the-variants.{References}
-use Rattle.heaps.specs.declared.rule.Fault.{Fault}
 use Rattle.heaps.specs.RuleTests.{partsOf, lowestLine, orElse, faultAt, firstFault, allRules, fault}
 use Rattle.checking.proofs.Named.{drop-past}
 

@@ -3,7 +3,7 @@ use super::cycles::CycleWork;
 use super::level_rule::LevelTest;
 use marks::BitMarks;
 
-// What it holds before a call does not matter. It takes 34,856 bytes:
+// What it holds before a call does not matter. It takes 34,840 bytes:
 // 512 for the cells that trail entries name, 512 for the cells that a choice point sees unbound,
 // and for cycles four tables of 8,192 bytes, two sets of 512 bytes and three numbers.
 #[derive(Drop)]

@@ -12,7 +12,7 @@ const STEPS: usize = 4096 * 65;
 // Components that are left get ranks from here down, which are above the numbers of cells that are entered.
 const HIGHEST: usize = 8192;
 
-// The work tables of the walks: 33,296 bytes.
+// The work tables of the walks: 33,304 bytes.
 #[derive(Drop)]
 pub struct Walk {
     // 0 for a cell that was not entered; else the lowest number of an entered cell that it leads back to; in the end the rank

@@ -1,7 +1,4 @@
-use mathlib.Core.Path.{_≡_, ap, sym, _∙_}
-use Prim.Native.Nat.{ℕ}
 use native.Mathlib.Omega.{arith}
-use Rattle.heaps.specs.RuleTests.{plusLine}
 use Rattle.checking.proofs.Bounds.{used-fits, trail-fits, depth-fits}
 use Rattle.checking.proofs.Searches.{in-only}
 use Rattle.checking.proofs.level_rule.first_leak.Needs as need

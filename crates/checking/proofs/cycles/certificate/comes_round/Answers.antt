@@ -1,5 +1,5 @@
-use mathlib.Core.Path.{_≡_, subst}
-use mathlib.Core.Logic.{inl, inr}
+use mathlib.Core.Path.{subst}
+use mathlib.Core.Logic.{inr}
 use Prim.Native.Nat.{ℕ}
 use Rattle.tables.specs.Views.{tablesOf}
 use Rattle.heaps.specs.Leads.{heapOf, Way}

@@ -1,4 +1,3 @@
-use Prim.Native.Nat.{ℕ}
 use lib.ListN.{getD}
 use Rattle.tables.specs.Tables.{used}
 use Rattle.tables.specs.Views.{tablesOf}

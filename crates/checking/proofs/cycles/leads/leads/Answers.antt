@@ -1,12 +1,7 @@
-use mathlib.Core.Path.{_≡_, subst, ap, sym, _∙_}
-use Prim.Native.Nat.{ℕ, _<_, _≤_}
 use native.Mathlib.Omega.{arith}
-use lib.ListN.{length}
-use Rattle.cells.specs.declared.cell.Cell.{Cell}
 use Rattle.tables.specs.Tables.{used}
 use Rattle.tables.specs.Views.{tablesOf}
 use Rattle.heaps.specs.Leads.{heapOf}
-use Rattle.checking.specs.Spans.{WordSpans}
 use Rattle.checking.proofs.RankLaws.{word-spans, past-spans}
 use Rattle.checking.proofs.cycles.leads.leads.Needs as need
 

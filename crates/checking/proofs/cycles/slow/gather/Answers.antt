@@ -1,12 +1,12 @@
-use mathlib.Core.Path.{_≡_, refl, ap, subst, sym, _∙_}
+use mathlib.Core.Path.{_≡_, refl, subst, sym}
 use mathlib.Core.Bool.{Bool}
-use Prim.Native.Nat.{ℕ, suc, _+_, _<_}
+use Prim.Native.Nat.{ℕ, suc, _+_}
 use native.Mathlib.Omega.{arith}
 use Rattle.marks.specs.Sets.{none}
 use Rattle.tables.specs.Tables.{used}
 use Rattle.tables.specs.Views.{tablesOf}
 use Rattle.heaps.specs.Leads.{heapOf}
-use Rattle.checking.specs.Spans.{LeadTo, HasWithin, Round}
+use Rattle.checking.specs.Spans.{HasWithin, Round}
 use Rattle.checking.proofs.Bounds.{used-fits}
 use Rattle.checking.proofs.GatherLaws.{gather-first, within-more, within-all}
 use Rattle.checking.proofs.cycles.slow.gather.Needs as need
