@@ -8,3 +8,6 @@ pub mod TextbookSteps
 pub mod SameRuns
 pub mod Lockstep
 pub mod MemoRuns
+pub mod Lasts
+pub mod LinkLaws
+pub mod ClassTables

@@ -1,2 +1,4 @@
 pub mod Merging
 pub mod Laws
+pub mod Links
+pub mod Classes
