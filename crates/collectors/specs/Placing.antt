@@ -27,17 +27,17 @@ placeIn (x ∷ xs) i = cond (eqb x i) 0 (suc (placeIn xs i))
 -- `top` says what becomes of a heap top.
 abbrev pub placed : List ℕ → (ℕ → ℕ) → Tables → Tables
 placed order top t =
-    record
-      { heap = map (λ i. relocate (placeIn order) (cellAt t i)) order
-      ; registers = map (relocate (placeIn order)) (t .registers)
-      ; trail = map (placeIn order) (kept (isReached t) (t .trail))
-      ; choices = map choice (t .choices)
-      }
+    record {
+      heap = map (λ i. relocate (placeIn order) (cellAt t i)) order;
+      registers = map (relocate (placeIn order)) (t .registers);
+      trail = map (placeIn order) (kept (isReached t) (t .trail));
+      choices = map choice (t .choices);
+    }
   where
     choice : Choice → Choice
     choice c =
-        record
-          { saved = map (relocate (placeIn order)) (c .saved)
-          ; heapTop = top (c .heapTop)
-          ; trailTop = length (kept (isReached t) (take (c .trailTop) (t .trail)))
-          }
+        record {
+          saved = map (relocate (placeIn order)) (c .saved);
+          heapTop = top (c .heapTop);
+          trailTop = length (kept (isReached t) (take (c .trailTop) (t .trail)));
+        }
