@@ -3,10 +3,10 @@
 use mathlib.Core.Path.{_≡_, refl, ap, _∙_, sym, subst}
 use mathlib.Core.Bool.{true}
 use mathlib.Core.List.{List, [], _∷_, _++_}
-use mathlib.Core.Logic.{_⊎_, inl, inr}
-use Prim.Native.Nat.{ℕ, zero, suc, pred, _+_, _-_, _<_, _≤_}
+use mathlib.Core.Logic.{_⊎_, inl}
+use Prim.Native.Nat.{ℕ, zero, suc, pred, _+_, _-_, _<_}
 use native.Mathlib.Omega.{arith}
-use lib.ListN.{length, getD, set, take, drop, replicate}
+use lib.ListN.{length, set, take, drop, replicate}
 use Rattle.std.proofs.shelf.Lists.{length-append, length-take-le, length-drop, length-replicate, getD-at, take-at, drop-at, drop-drop, drop-more, take-append-drop, set-at, set-append-right, append-assoc}
 use Rattle.cells.specs.declared.cell.Cell.{Cell}
 use Rattle.cells.specs.declared.cell.Cell.the-variants.{Reference, Pointer, Functor, Atom, Integer}
@@ -115,9 +115,9 @@ module _ (t : Tables) (h : Half) (s : HalfStands t h) where
       drop-more (t .heap) (h .at) (Reference (h .at)) (let a = s .top in omega arith)
       ∙ ap (λ (c : Cell). c ∷ drop (h .at + 1) (t .heap)) (functor-from (cellAt t (h .at)) (s .functor))
       ∙ ap (λ (cs : List Cell). Functor name arity ∷ cs) (
-          ap (λ (n : ℕ). drop n (t .heap)) (let e : h .at + 1 ≡ suc (h .at) = omega arith in e)
-          ∙ sym (take-append-drop (arity - h .missing) (drop (suc (h .at)) (t .heap)))
-          ∙ ap (λ (cs : List Cell). written t h ++ cs) (drop-drop (arity - h .missing) (suc (h .at)) (t .heap) ∙ s .blank)))
+      ap (λ (n : ℕ). drop n (t .heap)) (let e : h .at + 1 ≡ suc (h .at) = omega arith in e)
+      ∙ sym (take-append-drop (arity - h .missing) (drop (suc (h .at)) (t .heap)))
+      ∙ ap (λ (cs : List Cell). written t h ++ cs) (drop-drop (arity - h .missing) (suc (h .at)) (t .heap) ∙ s .blank)))
 
   tables-are : making old name arity (written t h) (h .missing) ≡ t
   tables-are = ap (withHeap t) (sym heap-is)

@@ -1,8 +1,8 @@
 -- The calls that open no choice point and leave none keep what the newest choice point goes back to.
-use mathlib.Core.Path.{_≡_, refl, ap, _∙_, sym, subst}
-use mathlib.Core.Bool.{Bool, true, false}
-use mathlib.Core.List.{List, [], _∷_, _++_}
-use mathlib.Core.Logic.{_⊎_, inl, inr}
+use mathlib.Core.Path.{_≡_, refl, ap, _∙_, sym}
+use mathlib.Core.Bool.{true, false}
+use mathlib.Core.List.{[], _∷_, _++_}
+use mathlib.Core.Logic.{inl, inr}
 use mathlib.Core.Option.{Option, some, none}
 use Prim.Native.Nat.{ℕ}
 use lib.ListN.{replicate}
@@ -11,7 +11,7 @@ use Rattle.cells.specs.declared.cell.Cell.{Cell}
 use Rattle.cells.specs.declared.cell.Cell.the-variants.{Reference, Pointer, Functor, Atom, Integer}
 use Rattle.tables.specs.Tables.{Tables, used, cellAt, register}
 use Rattle.heaps.specs.Levels.{last}
-use Rattle.heaps.specs.LevelLaws.{Keeps, HasChoice, newVariable}
+use Rattle.heaps.specs.LevelLaws.{HasChoice, newVariable}
 use Rattle.heaps.proofs.LastLaws.{last-pushChoice, last-setRegister, last-more}
 use Rattle.heaps.proofs.UndoRules.{retry-last}
 use Rattle.heaps.proofs.KeptWords.{keeps-register}
@@ -23,9 +23,9 @@ use Rattle.calls.specs.Unifying.{unifyWords}
 use Rattle.calls.specs.Steps.{Half, State, argument, setArgument, ifUnified, nextArgument, act}
 use Rattle.calls.specs.Whole.{without, HalfStands, Whole}
 use Rattle.calls.specs.KeepLaws.{keepsLevels}
-use Rattle.calls.proofs.KeepUnify.{Unify-keeps}
-use Rattle.calls.proofs.KeepHalf.{making, halfOf, Parts, without-making, half-parts, filled, fewer, half-written}
-use Rattle.calls.proofs.KeepSteps.{Accepted, half-none, none-stands, Slipped, half-some, some-stands, onHalf-some, missing-some}
+use Rattle.calls.proofs.KeepUnify.{unify-keeps}
+use Rattle.calls.proofs.KeepHalf.{without-making, half-parts, filled, fewer, half-written}
+use Rattle.calls.proofs.KeepSteps.{Accepted, half-none, none-stands, half-some, some-stands, onHalf-some, missing-some}
 
 -- An accepted call keeps the older levels.
 abbrev Levelled : Call → Type 0
@@ -42,15 +42,15 @@ level-arg d r i left s w has a = by (argument (s .tables) r i)
     by none = refl
     by (some n) = last-setRegister (s .tables) has d (cellAt (s .tables) n)
 
-level-unify : Unify-keeps → (p q : ℕ) → Levelled (Unify p q)
-level-unify unified p q left s w has a = by (unifyWords t (register t p) (register t q)) refl
+level-unify : (p q : ℕ) → Levelled (Unify p q)
+level-unify p q left s w has a = by (unifyWords t (register t p) (register t q)) refl
   where
     t : Tables
     t = s .tables
 
     by : (o : Option Tables) → unifyWords t (register t p) (register t q) ≡ o → last (ifUnified s o .1 .tables) ≡ last t
     by none x = refl
-    by (some u) x = let k = none-stands s (half-none s (a .0 .0)) w in unified t u (register t p) (register t q) k (keeps-register t p k) (keeps-register t q k) x .1 has
+    by (some u) x = let k = none-stands s (half-none s (a .0 .0)) w in unify-keeps t u (register t p) (register t q) k (keeps-register t p k) (keeps-register t q k) x .1 has
 
 level-retry : Levelled Retry
 level-retry left s w has a = let o = none-stands s (half-none s (a .0 .0)) w in ap last (retry-last (s .tables) (o .0) has) ∙ last-pushChoice (last (s .tables))
@@ -84,23 +84,23 @@ level-void : (slip : Draft) → Levelled (Void slip)
 level-void slip left s w has a = let x = half-some s slip (a .0 .0) in
     ap (λ (y : Answer × State). last (y .1 .tables)) (onHalf-some s (x .half) _ (x .is)) ∙ sym (half-last (s .tables) (x .half) (some-stands s (x .half) (x .is) w) has)
 
-pub act-levels : Unify-keeps → (c : Call) (left : Tables) (s : State) → Whole s → keepsLevels c ≡ true → HasChoice (s .tables) → Accepted c s → last (act c left s .1 .tables) ≡ last (s .tables)
-act-levels unified (Var d) left s w k has a = level-var d left s w has a
-act-levels unified (SetAtom d n) left s w k has a = last-setRegister (s .tables) has d (Atom n)
-act-levels unified (Int d z) left s w k has a = last-setRegister (s .tables) has d (Integer z)
-act-levels unified (Move d r) left s w k has a = last-setRegister (s .tables) has d (register (s .tables) r)
-act-levels unified (Look r) left s w k has a = refl
-act-levels unified (Arg d r i) left s w k has a = level-arg d r i left s w has a
-act-levels unified (Same p q) left s w k has a = refl
-act-levels unified (Unify p q) left s w k has a = level-unify unified p q left s w has a
-act-levels unified Open left s w k has a = absurd (both-ways false refl k)
-act-levels unified Retry left s w k has a = level-retry left s w has a
-act-levels unified Last left s w k has a = absurd (both-ways false refl k)
-act-levels unified (Cut n) left s w k has a = absurd (both-ways false refl k)
-act-levels unified (Start name arity) left s w k has a = level-start name arity left s w has a
-act-levels unified (Put slip r) left s w k has a = level-put slip r left s w has a
-act-levels unified (Hole slip) left s w k has a = level-hole slip left s w has a
-act-levels unified (Done slip d) left s w k has a = level-done slip d left s w has a
-act-levels unified (Void slip) left s w k has a = level-void slip left s w has a
-act-levels unified Collect left s w k has a = absurd (both-ways false refl k)
-act-levels unified Usage left s w k has a = refl
+pub act-levels : (c : Call) (left : Tables) (s : State) → Whole s → keepsLevels c ≡ true → HasChoice (s .tables) → Accepted c s → last (act c left s .1 .tables) ≡ last (s .tables)
+act-levels (Var d) left s w k has a = level-var d left s w has a
+act-levels (SetAtom d n) left s w k has a = last-setRegister (s .tables) has d (Atom n)
+act-levels (Int d z) left s w k has a = last-setRegister (s .tables) has d (Integer z)
+act-levels (Move d r) left s w k has a = last-setRegister (s .tables) has d (register (s .tables) r)
+act-levels (Look r) left s w k has a = refl
+act-levels (Arg d r i) left s w k has a = level-arg d r i left s w has a
+act-levels (Same p q) left s w k has a = refl
+act-levels (Unify p q) left s w k has a = level-unify p q left s w has a
+act-levels Open left s w k has a = absurd (both-ways false refl k)
+act-levels Retry left s w k has a = level-retry left s w has a
+act-levels Last left s w k has a = absurd (both-ways false refl k)
+act-levels (Cut n) left s w k has a = absurd (both-ways false refl k)
+act-levels (Start name arity) left s w k has a = level-start name arity left s w has a
+act-levels (Put slip r) left s w k has a = level-put slip r left s w has a
+act-levels (Hole slip) left s w k has a = level-hole slip left s w has a
+act-levels (Done slip d) left s w k has a = level-done slip d left s w has a
+act-levels (Void slip) left s w k has a = level-void slip left s w has a
+act-levels Collect left s w k has a = absurd (both-ways false refl k)
+act-levels Usage left s w k has a = refl

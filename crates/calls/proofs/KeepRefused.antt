@@ -1,5 +1,5 @@
 -- A call is refused by its tests only: what an accepted call answers is no refusal, and a refused call leaves the state as it was.
-use mathlib.Core.Path.{_≡_, refl, ap, _∙_, sym}
+use mathlib.Core.Path.{_≡_, refl, ap}
 use mathlib.Core.Bool.{Bool, true, false}
 use mathlib.Core.Option.{Option, some, none}
 use Prim.Native.Nat.{ℕ, _+_}
@@ -13,7 +13,7 @@ use Rattle.calls.specs.declared.Answer.{Answer}
 use Rattle.calls.specs.declared.Answer.the-variants.{Nothing, Refused, Sees, Tells, Hands, Counts}
 use Rattle.calls.specs.Refusals.{cellsNeeded}
 use Rattle.calls.specs.Unifying.{unifyWords}
-use Rattle.calls.specs.Steps.{Half, State, argument, setArgument, ifUnified, onHalf, act, unless, refusalOf, step}
+use Rattle.calls.specs.Steps.{Half, State, argument, setArgument, ifUnified, onHalf, act, unless, refusalOf}
 use Rattle.calls.specs.KeepLaws.{Refused-unchanged}
 
 abbrev pub isRefused : Answer → Bool

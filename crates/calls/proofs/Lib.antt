@@ -1,3 +1,9 @@
+pub mod UnifyEnds
+pub mod UnifyBound
+pub mod UnifyPairs
+pub mod UnifySteps
+pub mod UnifyMostGeneral
+mod UnifyExamples
 pub mod CellSet
 pub mod WholeProp
 pub mod KeepHalf

@@ -119,9 +119,10 @@ act Retry left s = (Nothing, keeping s (retry (s .tables)))
 act Last left s = (Nothing, keeping s (last (s .tables)))
 act (Cut k) left s = (Nothing, keeping s (keepChoices (s .tables) k))
 act (Start name arity) left s =
-    let t = s .tables in
-    ( Hands (record { name = name; arity = arity; missing = arity })
-    , record { tables = withHeap t (t .heap ++ (Functor name arity ∷ replicate arity (Atom 0))); half = some (record { at = used t; missing = arity }) } )
+    let t = s .tables in (
+      Hands (record { name = name; arity = arity; missing = arity }),
+      record { tables = withHeap t (t .heap ++ (Functor name arity ∷ replicate arity (Atom 0))); half = some (record { at = used t; missing = arity }) },
+    )
 act (Put slip r) left s = onHalf s (write s (register (s .tables) r))
 act (Hole slip) left s = onHalf s (λ h. write s (Reference (nextArgument (s .tables) h)) h)
 act (Done slip d) left s = onHalf s (λ h. (Nothing, record { tables = setRegister (s .tables) d (Pointer (h .at)); half = none }))

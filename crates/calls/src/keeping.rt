@@ -10,12 +10,15 @@ ghost use Rattle.calls.specs.KeepLaws.{Refused-unchanged, Settled-kept, Void-b
 pub fn calls_keep_rules() -> bool
     ensures start { λ _. ⌜ Whole-start ⌝ }
     ensures tables { λ _. ⌜ Whole-tables ⌝ }
+    ensures keeps { λ _. ⌜ Step-keeps ⌝ }
+    ensures levels { λ _. ⌜ Levels-kept ⌝ }
     ensures opened { λ _. ⌜ Level-opened ⌝ }
     ensures retried { λ _. ⌜ Level-retried ⌝ }
     ensures left { λ _. ⌜ Level-left ⌝ }
     ensures cut { λ _. ⌜ Levels-cut ⌝ }
     ensures refused { λ _. ⌜ Refused-unchanged ⌝ }
     ensures settled { λ _. ⌜ Settled-kept ⌝ }
+    ensures back { λ _. ⌜ Void-back ⌝ }
     ensures answer { λ r. ⌜ r ≡ true ⌝ }
 {
     true // The laws of calls.

@@ -1,5 +1,6 @@
 // The calls of a store and their answers.
 pub mod keeping;
+pub mod unifying;
 
 use cells::Refusal;
 use cells::Seen;

@@ -6,7 +6,6 @@ use Rattle.tables.specs.Tables.{Tables, used}
 use Rattle.terms.specs.Renamings.{Alike}
 use Rattle.heaps.specs.Spelling.{spelled}
 use Rattle.heaps.specs.Levels.{undo}
-use Rattle.heaps.specs.Reached.{reachedCount}
 use Rattle.heaps.specs.Rules.{Rules, Fits}
 
 -- A collector's meaning is a count for any tables that keep the rules, never above the cells in use.
@@ -23,14 +22,3 @@ pub record Shows (count : ℕ) (t u : Tables) : Type 0 where
   pub points : length (u .choices) ≡ length (t .choices)
   pub counted : used u ≡ count
   pub spells : (k : ℕ) → k ≤ length (t .choices) → Alike (spelled (undo t k)) (spelled (undo u k))
-
--- A layer changes the tables and hands them to the collector below, whose count on them is the layer's count.
-abbrev pub under : (Tables → Tables) → (Tables → ℕ) → Tables → ℕ
-under change count t = count (change t)
-
--- Copying and sliding have the number of reached cells as their count.
-abbrev pub copyingCount : Tables → ℕ
-copyingCount = reachedCount
-
-abbrev pub slidingCount : Tables → ℕ
-slidingCount = reachedCount

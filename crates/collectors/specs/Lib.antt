@@ -4,3 +4,4 @@ pub mod Copying
 pub mod Sliding
 pub mod Resetting
 pub mod Shortening
+pub mod Layers

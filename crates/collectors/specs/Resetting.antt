@@ -31,19 +31,19 @@ stretch n m trail = take (m - n) (drop n trail)
 abbrev pub resetBelow : List Choice → ℕ → List ℕ → List Cell → List Cell → Left
 resetBelow [] m trail cells words =
     let entries = stretch 0 m trail in
-    record
-      { heap = unbindAll cells (kept (λ e. not (marked cells words e)) entries)
-      ; trail = kept (marked cells words) entries
-      ; choices = []
-      }
+    record {
+      heap = unbindAll cells (kept (λ e. not (marked cells words e)) entries);
+      trail = kept (marked cells words) entries;
+      choices = [];
+    }
 resetBelow (c ∷ cs) m trail cells words =
     let entries = stretch (c .trailTop) m trail in
     let older = resetBelow cs (c .trailTop) trail (unbindAll cells (kept (λ e. not (marked cells words e)) entries)) (words ++ c .saved) in
-    record
-      { heap = older .heap
-      ; trail = older .trail ++ kept (marked cells words) entries
-      ; choices = withTops c (c .heapTop) (length (older .trail)) ∷ older .choices
-      }
+    record {
+      heap = older .heap;
+      trail = older .trail ++ kept (marked cells words) entries;
+      choices = withTops c (c .heapTop) (length (older .trail)) ∷ older .choices;
+    }
 
 abbrev pub reset : Tables → Tables
 reset t =

@@ -24,12 +24,12 @@ short t w = shortBy (used t) (heapOf (t .heap)) (t .trail) w
 
 abbrev pub shorten : Tables → Tables
 shorten t =
-    record
-      { heap = map (short t) (t .heap)
-      ; registers = map (short t) (t .registers)
-      ; trail = t .trail
-      ; choices = map choice (t .choices)
-      }
+    record {
+      heap = map (short t) (t .heap);
+      registers = map (short t) (t .registers);
+      trail = t .trail;
+      choices = map choice (t .choices);
+    }
   where
     choice : Choice → Choice
     choice c = record { saved = map (short t) (c .saved); heapTop = c .heapTop; trailTop = c .trailTop }

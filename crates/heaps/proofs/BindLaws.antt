@@ -13,7 +13,7 @@ use Rattle.heaps.specs.Binding.{bind}
 use Rattle.heaps.specs.Rules.{WordKeeps, Rules}
 use Rattle.heaps.specs.SpellingLaws.{Reads, Bindable, Spell-bind}
 use Rattle.heaps.proofs.Sound.{Sound, rules-sound}
-use Rattle.heaps.proofs.WordLaws.{false-of, refers-eq, unbound-is, keeps-word, keeps-kinds}
+use Rattle.heaps.proofs.WordKinds.{false-of, refers-eq, unbound-is, keeps-word, keeps-kinds}
 use Rattle.heaps.proofs.Put.{heap-set, put-kind, put-sound}
 use Rattle.heaps.proofs.SpellLaws.{reads-by, reads-only}
 use Rattle.heaps.proofs.Ranks.{marked, reads-acyclic}

@@ -11,7 +11,7 @@ use Rattle.terms.proofs.TermLaws.{only-absent, only-self}
 use Rattle.heaps.specs.Leads.{Heap, put, refersTo, unbound, isFunctor}
 use Rattle.heaps.specs.Spelling.{labelOf, arityOf, run, spellBy, same}
 use Rattle.heaps.specs.SpellingLaws.{Reads}
-use Rattle.heaps.proofs.WordLaws.{unbound-is, head-word}
+use Rattle.heaps.proofs.WordKinds.{unbound-is, head-word}
 use Rattle.heaps.proofs.Ranks.{marked}
 
 pub run-apply : (σ : ℕ → Term) (s : Cell → Term) (n k : ℕ) → apply σ (run s n k) ≡ run (λ d. apply σ (s d)) n k

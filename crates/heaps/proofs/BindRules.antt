@@ -21,7 +21,7 @@ use Rattle.heaps.specs.Rules.{WordKeeps, EntryNames, TopsFall, Closed, Rules}
 use Rattle.heaps.specs.SpellingLaws.{Bindable, Rules-bind, Fits-bind}
 use Rattle.heaps.proofs.MemberLaws.{each-map, each-joined}
 use Rattle.heaps.proofs.Pigeonhole.{pigeonhole}
-use Rattle.heaps.proofs.WordLaws.{unbound-is, keeps-kinds}
+use Rattle.heaps.proofs.WordKinds.{unbound-is, keeps-kinds}
 use Rattle.heaps.proofs.BindLaws.{Replaced, used-bind, bind-replaces, now-bound}
 use Rattle.heaps.proofs.SeenLaws.{unbind-at, in-joined, different-push}
 

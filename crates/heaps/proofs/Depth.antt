@@ -16,7 +16,7 @@ use Rattle.heaps.specs.Spelling.{arityOf}
 use Rattle.heaps.proofs.Sound.{Sound}
 use Rattle.heaps.proofs.MemberLaws.{each-map, each-in}
 use Rattle.heaps.proofs.Pigeonhole.{pigeonhole}
-use Rattle.heaps.proofs.WordLaws.{false-of, unbound-is}
+use Rattle.heaps.proofs.WordKinds.{false-of, unbound-is}
 
 -- g layers reach the end of all that the word c spells
 abbrev pub Deep : Heap → ℕ → Cell → Type 0

@@ -2,7 +2,7 @@ pub mod CountLaws
 pub mod MemberLaws
 pub mod Pigeonhole
 pub mod Sound
-pub mod WordLaws
+pub mod WordKinds
 pub mod Put
 pub mod Depth
 pub mod SpellLaws

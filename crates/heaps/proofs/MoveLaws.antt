@@ -14,7 +14,7 @@ use Rattle.heaps.specs.Leads.{Heap, heapOf, LeadsBy, refersTo, unbound, isFunc
 use Rattle.heaps.specs.Spelling.{labelOf, arityOf, run, spellBy, same}
 use Rattle.heaps.specs.Moving.{Moves}
 use Rattle.heaps.specs.SpellingLaws.{Spell-moved, Acyclic-moved}
-use Rattle.heaps.proofs.WordLaws.{word-leads, argument-leads}
+use Rattle.heaps.proofs.WordKinds.{word-leads, argument-leads}
 use Rattle.heaps.proofs.SpellLaws.{spell-more}
 
 head-moved : (f : ℕ → ℕ) (c : Cell) → (labelOf (relocate f c) ≡ labelOf c) × (arityOf (relocate f c) ≡ arityOf c)

@@ -11,7 +11,7 @@ use Rattle.heaps.specs.Spelling.{arityOf}
 use Rattle.heaps.specs.Rules.{WordKeeps}
 use Rattle.heaps.specs.Moving.{Moves}
 use Rattle.heaps.proofs.Sound.{Sound}
-use Rattle.heaps.proofs.WordLaws.{argument-leads}
+use Rattle.heaps.proofs.WordKinds.{argument-leads}
 
 -- f takes the set R onto the numbers below n
 pub record Onto (R : ℕ → Type 0) (f : ℕ → ℕ) (n : ℕ) : Type 0 where

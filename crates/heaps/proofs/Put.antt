@@ -13,7 +13,7 @@ use Rattle.cells.specs.declared.cell.Cell.the-variants.{Reference, Pointer, Fun
 use Rattle.heaps.specs.Leads.{Heap, heapOf, put, isFunctor}
 use Rattle.heaps.specs.Rules.{WordKeeps}
 use Rattle.heaps.proofs.Sound.{Sound}
-use Rattle.heaps.proofs.WordLaws.{keeps-word}
+use Rattle.heaps.proofs.WordKinds.{keeps-word}
 
 pub heap-set : (cells : List Cell) (x : ℕ) (c : Cell) → x < length cells → heapOf (set cells x c) ≡ put (heapOf cells) x c
 heap-set cells x c lt = fun-ext at

@@ -15,7 +15,7 @@ use Rattle.heaps.specs.Leads.{Heap, heapOf, put, LeadsBy, refersTo, unbound, i
 use Rattle.heaps.specs.Spelling.{labelOf, arityOf, run, spellBy, same}
 use Rattle.heaps.specs.SpellingLaws.{Reads, Spell-shorten}
 use Rattle.heaps.proofs.Sound.{Sound, rules-sound, cell-keeps}
-use Rattle.heaps.proofs.WordLaws.{false-of, refers-eq, head-word, word-leads}
+use Rattle.heaps.proofs.WordKinds.{false-of, refers-eq, head-word, word-leads}
 use Rattle.heaps.proofs.Put.{heap-set, put-sound}
 use Rattle.heaps.proofs.SpellLaws.{reads-by, reads-only}
 

@@ -53,9 +53,9 @@ twoVariables = fromSetUp (Var 0 ∷ Var 1 ∷ Unify 0 1 ∷ Int 2 (pos 4) ∷ Un
 abbrev pub underChoice : Tables
 underChoice =
     fromSetUp
-      (Start 7 2 ∷ Hole (slip 7 2 2) ∷ Put (slip 7 2 1) 1 ∷ Done (slip 7 2 0) 0 ∷ Arg 1 0 1 ∷ Open
-       ∷ Start 8 1 ∷ Put (slip 8 1 1) 3 ∷ Done (slip 8 1 0) 2 ∷ Unify 1 2 ∷ SetAtom 0 0 ∷ SetAtom 1 0 ∷ SetAtom 2 0 ∷ [])
-      .tables
+    (Start 7 2 ∷ Hole (slip 7 2 2) ∷ Put (slip 7 2 1) 1 ∷ Done (slip 7 2 0) 0 ∷ Arg 1 0 1 ∷ Open
+    ∷ Start 8 1 ∷ Put (slip 8 1 1) 3 ∷ Done (slip 8 1 0) 2 ∷ Unify 1 2 ∷ SetAtom 0 0 ∷ SetAtom 1 0 ∷ SetAtom 2 0 ∷ [])
+    .tables
 
 pub record Worked : Type 0 where
   pub minus-one : encoded (Integer (negsuc 0)) ≡ Ok 4294967292

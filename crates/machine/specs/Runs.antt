@@ -94,8 +94,8 @@ abbrev pub Agree : State → Machine → List Event → Type 0
 Agree s m [] = Unit {0}
 Agree s m (e ∷ es) =
     cond (isWant (answer e s))
-      (Agree (next e s) m es)
-      (Compared (answer e s) (Tree.step (e .call) m .0) × Agree (next e s) (Tree.step (e .call) m .1) es)
+    (Agree (next e s) m es)
+    (Compared (answer e s) (Tree.step (e .call) m .0) × Agree (next e s) (Tree.step (e .call) m .1) es)
 
 abbrev pub begin : Tables → State
 begin t = record { tables = t; half = none }
@@ -116,4 +116,4 @@ Counted s (e ∷ es) =
     × Counted (next e s) es
 
 abbrev pub Runs-counted : Type 0
-Runs-counted = (t : Tables) → (es : List Event) → Lawful (begin t) es → Counted (begin t) es
+Runs-counted = (t : Tables) → Rules t → Fits t → (es : List Event) → Lawful (begin t) es → Counted (begin t) es

@@ -1,3 +1,5 @@
+ghost use mathlib.Core.Path.{_≡_};
+ghost use lib.ListN.{length};
 use super::stack::Stack;
 
 mod choices;
@@ -11,6 +13,7 @@ pub struct ChoicePoint {
     saved: [u32; 8],
     heap_top: u16,
     trail_top: u16,
+    ghost eight: { length saved ≡ 8 },
 }
 
 // The tables of a store. They keep no rules beyond their lengths.
@@ -20,4 +23,5 @@ pub struct Memory {
     trail: Stack<u16, 4096>,
     choices: Stack<ChoicePoint, 64>,
     registers: [u32; 8],
+    ghost eight: { length registers ≡ 8 },
 }

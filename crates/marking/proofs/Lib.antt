@@ -1,0 +1,10 @@
+pub mod Counts
+pub mod Members
+pub mod Words
+pub mod Ends
+pub mod Notes
+pub mod Walks
+pub mod Marked
+pub mod RootsMarked
+pub mod Rules
+pub mod Unbound

@@ -1,0 +1,10 @@
+pub mod ClassLaws
+pub mod MergeCount
+pub mod SolutionLaws
+pub mod Meetings
+pub mod WordsMeet
+pub mod Bisimulation
+pub mod TextbookSteps
+pub mod SameRuns
+pub mod Lockstep
+pub mod MemoRuns
