@@ -11,3 +11,4 @@ pub mod MemoRuns
 pub mod Lasts
 pub mod LinkLaws
 pub mod ClassTables
+pub mod ChainSteps

@@ -2,3 +2,4 @@ pub mod Merging
 pub mod Laws
 pub mod Links
 pub mod Classes
+pub mod Frames
