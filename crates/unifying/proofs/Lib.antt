@@ -8,3 +8,9 @@ pub mod TextbookSteps
 pub mod SameRuns
 pub mod Lockstep
 pub mod MemoRuns
+pub mod ByteLaws
+pub mod VisitLaws
+pub mod OccursLaws
+pub mod OccursWalk
+pub mod BindRoom
+pub mod UnbindLaws

@@ -1,2 +1,5 @@
 pub mod Merging
 pub mod Laws
+pub mod Bytes
+pub mod Visits
+pub mod Unbinding

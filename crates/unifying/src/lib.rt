@@ -5,6 +5,15 @@ ghost use mathlib.Core.Path.{_≡_};
 ghost use mathlib.Core.Bool.{true};
 ghost use Rattle.unifying.specs.Laws.{Memo-right, Same-right, Merges-fewer};
 
+mod binding;
+mod occurring;
+pub mod visits;
+
+pub use binding::bind;
+pub use binding::unbind;
+pub use occurring::occurs;
+pub use visits::VisitTable;
+
 /// Unifying and comparing with merges have the results that they have without, and there are fewer merges than cells.
 pub fn merging_stands() -> bool
     ensures unifies { λ _. ⌜ Memo-right ⌝ }
