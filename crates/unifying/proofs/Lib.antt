@@ -12,3 +12,9 @@ pub mod Lasts
 pub mod LinkLaws
 pub mod ClassTables
 pub mod ChainSteps
+pub mod ByteLaws
+pub mod VisitLaws
+pub mod OccursLaws
+pub mod OccursWalk
+pub mod BindRoom
+pub mod UnbindLaws

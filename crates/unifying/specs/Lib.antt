@@ -3,3 +3,6 @@ pub mod Laws
 pub mod Links
 pub mod Classes
 pub mod Frames
+pub mod Bytes
+pub mod Visits
+pub mod Unbinding
