@@ -1,3 +1,4 @@
+//! Unifying and comparing words whose terms share structure: pairs of structures already set equal are not gone through again.
 //! Definitions are in `specs/`, laws in `proofs/`. Each function states laws in its contract, so that callers can cite them.
 
 ghost use mathlib.Core.Path.{_≡_};
