@@ -57,7 +57,7 @@ keep-move d r left s w a = let e = half-none s (a .0 .0) in let k = none-stands 
     none-whole s _ e (stands-setRegister (s .tables) d (register (s .tables) r) (keeps-register (s .tables) r k) k)
 
 -- An argument of the structure at the end of a chain may stand in a register.
-argument-keeps : (t : Tables) → Stands t → (c : Cell) → WordKeeps (heapOf (t .heap)) (used t) c → (i n : ℕ) → argumentOf t c i ≡ some n → Keeps t (cellAt t n)
+pub argument-keeps : (t : Tables) → Stands t → (c : Cell) → WordKeeps (heapOf (t .heap)) (used t) c → (i n : ℕ) → argumentOf t c i ≡ some n → Keeps t (cellAt t n)
 argument-keeps t o (Reference m) k i n e = absurd (let z : _≡_ {A = ℕ} 0 1 = cc in omega arith)
 argument-keeps t o (Pointer m) k i n e = by (eqb i 0 || ltb (arityOf (cellAt t m)) i) refl e
   where

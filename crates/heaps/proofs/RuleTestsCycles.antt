@@ -21,7 +21,7 @@ use Rattle.heaps.specs.RuleTestLaws.{Faultless, Cycle-decided}
 use Rattle.heaps.proofs.RuleTestsCounts.{without, without-other, count-without, count-most}
 use Rattle.heaps.proofs.RuleTestsBasics.{not-so, some-from, from-some}
 
-unbound-self : (i : ℕ) (c : Cell) (j : ℕ) → refersTo i c ≡ true → LeadsBy i c j → j ≡ i
+pub unbound-self : (i : ℕ) (c : Cell) (j : ℕ) → refersTo i c ≡ true → LeadsBy i c j → j ≡ i
 unbound-self i (Reference m) j e l = let q = eqb-true m i e in omega arith
 unbound-self i (Pointer m) j e l = absurd (both-ways false refl e)
 unbound-self i (Functor name arity) j e l = absurd (both-ways false refl e)

@@ -1,16 +1,15 @@
 -- A store keeps what every state keeps: its tables stand, and an accepted call leaves it so.
-use mathlib.Core.Path.{_≡_, sym, subst, ap, _∙_}
-use mathlib.Core.Logic.{∥∥₁-map}
+use mathlib.Core.Path.{_≡_, sym, subst}
 use mathlib.Core.Option.{none}
 use Rattle.std.specs.declared.option.Option.{Option}
 use Rattle.tables.specs.declared.memory.Memory.{Memory}
 use Rattle.tables.specs.Views.{tablesOf}
 use Rattle.heaps.specs.LevelLaws.{Stands}
 use Rattle.calls.specs.declared.Call.{Call}
-use Rattle.calls.specs.Steps.{State, act}
+use Rattle.calls.specs.Steps.{act}
 use Rattle.calls.specs.Whole.{Whole}
 use Rattle.calls.proofs.WholeProp.{whole-of}
-use Rattle.calls.proofs.KeepCalls.{Keeping}
+use Rattle.calls.proofs.KeepCalls.{act-keeps}
 use Rattle.calls.proofs.KeepLaws.{whole-tables}
 use Rattle.store.specs.declared.store.Store.{Store}
 use Rattle.store.specs.declared.half.Half.{Half}
@@ -24,7 +23,7 @@ whole s = whole-of (state s) (s .whole)
 pub stands : (s : Store) → Stands (tablesOf (s .memory))
 stands s = whole-tables (state s) (whole s)
 
-pub whole-after : (c : Call) → Keeping c → (s : Store) (m : Memory) (h : Option Half) → none ≡ refusalFor c (state s)
-    → stateOf m h ≡ act c (tablesOf (s .memory)) (state s) .1 → ∥ Whole (stateOf m h) ∥₁
-whole-after c keeps s m h none-hits e =
-    ∥∥₁-map (s .whole) λ w. subst Whole (sym e) (keeps (tablesOf (s .memory)) (state s) w (accepted c (state s) none-hits))
+pub whole-after : (c : Call) (s : Store) (m : Memory) (h : Option Half) → none ≡ refusalFor c (state s) → stateOf m h ≡ act c (tablesOf (s .memory)) (state s) .1 → ∥ Whole (stateOf m h) ∥₁
+whole-after c s m h none-hits e =
+    let t = tablesOf (s .memory) in
+    ∣ subst Whole (sym e) (act-keeps c t (state s) (whole s) (λ _. stands s) (accepted c (state s) none-hits)) ∣₁

@@ -56,7 +56,7 @@ turned-cut f xs ys k e =
     ap reverse (map-cut f xs ys k e) ∙ reverse-take k (map f xs)
     ∙ ap (λ n. drop (n - k) (reverse (map f xs))) (sym (length-reverse (map f xs)))
 
-reverse-set : {A : Type 0} (zs : List A) (k : ℕ) (y : A) → k < length zs → reverse (set zs (length zs - 1 - k) y) ≡ set (reverse zs) k y
+pub reverse-set : {A : Type 0} (zs : List A) (k : ℕ) (y : A) → k < length zs → reverse (set zs (length zs - 1 - k) y) ≡ set (reverse zs) k y
 reverse-set {A} zs k y h = same-lists _ _ (length-reverse (set zs p y) ∙ length-set zs p y ∙ sym (length-set (reverse zs) k y ∙ length-reverse zs)) at-place
   where
     p : ℕ

@@ -8,3 +8,13 @@ pub mod TextbookSteps
 pub mod SameRuns
 pub mod Lockstep
 pub mod MemoRuns
+pub mod Lasts
+pub mod LinkLaws
+pub mod ClassTables
+pub mod ChainSteps
+pub mod ByteLaws
+pub mod VisitLaws
+pub mod OccursLaws
+pub mod OccursWalk
+pub mod BindRoom
+pub mod UnbindLaws

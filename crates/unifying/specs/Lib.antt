@@ -1,2 +1,8 @@
 pub mod Merging
 pub mod Laws
+pub mod Links
+pub mod Classes
+pub mod Frames
+pub mod Bytes
+pub mod Visits
+pub mod Unbinding

@@ -5,6 +5,23 @@ ghost use mathlib.Core.Path.{_≡_};
 ghost use mathlib.Core.Bool.{true};
 ghost use Rattle.unifying.specs.Laws.{Memo-right, Same-right, Merges-fewer};
 
+mod binding;
+mod chains;
+mod classes;
+mod frames;
+mod merged;
+mod occurring;
+mod popping;
+pub mod visits;
+
+pub use binding::bind;
+pub use binding::unbind;
+pub use chains::end_of;
+pub use classes::Classes;
+pub use frames::Frames;
+pub use occurring::occurs;
+pub use visits::VisitTable;
+
 /// Unifying and comparing with merges have the results that they have without, and there are fewer merges than cells.
 pub fn merging_stands() -> bool
     ensures unifies { λ _. ⌜ Memo-right ⌝ }

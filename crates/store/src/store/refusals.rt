@@ -1,7 +1,7 @@
 ghost use mathlib.Core.Path.{_≡_};
 ghost use mathlib.Core.Bool.{not, _||_};
 ghost use Prim.Native.Nat.{_+_};
-ghost use lib.Dec.{ltb};
+ghost use lib.Dec.{eqb, ltb};
 ghost use Rattle.cells.specs.declared.refusal.Refusal.the-variants.{WrongSlip, NoRegister, OutOfRange, WrongCount, NoArgument};
 ghost use Rattle.cells.specs.Cells.{inRange};
 ghost use Rattle.tables.specs.Tables.{used};
@@ -29,6 +29,7 @@ fn first_hit(tests: &[(Refusal, bool)]) -> Option<Refusal>
     None
 }
 
+// Each of these functions gives one test: the refusal, and whether it hits.
 fn no_register(r: u64) -> (Refusal, bool)
     ensures { λ t. ⌜ t ≡ (NoRegister, noRegister r) ⌝ }
 {
@@ -47,10 +48,18 @@ fn no_range(cell: Cell) -> (Refusal, bool)
     (Refusal::OutOfRange, !cell.in_range())
 }
 
-fn miscounted(wrong: bool) -> (Refusal, bool)
-    ensures { λ t. ⌜ t ≡ (WrongCount, wrong) ⌝ }
+// No argument is missing.
+fn full(slip: Draft) -> (Refusal, bool)
+    ensures { λ t. ⌜ t ≡ (WrongCount, eqb (slip .missing) 0) ⌝ }
 {
-    (Refusal::WrongCount, wrong)
+    (Refusal::WrongCount, slip.missing == 0)
+}
+
+// Some argument is missing.
+fn unfinished(slip: Draft) -> (Refusal, bool)
+    ensures { λ t. ⌜ t ≡ (WrongCount, ltb 0 (slip .missing)) ⌝ }
+{
+    (Refusal::WrongCount, slip.missing > 0)
 }
 
 impl Store {
@@ -92,20 +101,10 @@ impl Store {
             Call::Start { name, arity } => first_hit(
                 &[half, no_range(Cell::Functor { name, arity })],
             ),
-            Call::Put { slip, s } => first_hit(
-                &[
-                    self.no_slip(slip),
-                    no_register(s),
-                    miscounted(slip.missing == 0),
-                ],
-            ),
-            Call::Hole { slip } => first_hit(&[self.no_slip(slip), miscounted(slip.missing == 0)]),
+            Call::Put { slip, s } => first_hit(&[self.no_slip(slip), no_register(s), full(slip)]),
+            Call::Hole { slip } => first_hit(&[self.no_slip(slip), full(slip)]),
             Call::Done { slip, d } => first_hit(
-                &[
-                    self.no_slip(slip),
-                    no_register(d),
-                    miscounted(slip.missing > 0),
-                ],
+                &[self.no_slip(slip), no_register(d), unfinished(slip)],
             ),
             Call::Void { slip } => first_hit(&[self.no_slip(slip)]),
             Call::Collect => first_hit(&[half]),

@@ -80,6 +80,16 @@ impl Memory {
         Cell::of(point.saved[r])
     }
 
+    // How many registers a choice point saves.
+    pub fn saved_len(&self, k: usize) -> usize
+        requires { ⌜ k < length (tablesOf (now self) .choices) ⌝ }
+        ensures all { λ n. ⌜ n ≡ length (choiceAt (tablesOf (now (self .entry))) k .saved) ⌝ }
+        ensures eight { λ n. ⌜ n ≡ 8 ⌝ }
+    {
+        let point = self.point(k);
+        point.saved.len()
+    }
+
     pub fn set_saved(&mut self, k: usize, r: usize, cell: Cell)
         requires { ⌜ k < length (tablesOf (now self) .choices) ⌝ ∗ ⌜ r < 8 ⌝ ∗ ⌜ inRange cell ≡ true ⌝ }
         ensures { λ _. ⌜ tablesOf (now (self .exit)) ≡ setChoice (tablesOf (now (self .entry))) k (withSaved (choiceAt (tablesOf (now (self .entry))) k) r cell) ⌝ }

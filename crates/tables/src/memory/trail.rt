@@ -1,5 +1,5 @@
 ghost use mathlib.Core.Path.{_≡_};
-ghost use Prim.Native.Nat.{_<_};
+ghost use Prim.Native.Nat.{_<_, _≤_};
 ghost use lib.ListN.{length, getD};
 ghost use Rattle.tables.specs.Tables.{setEntry, pushEntry, cutTrail};
 ghost use Rattle.tables.specs.Views.{tablesOf};
@@ -29,7 +29,7 @@ impl Memory {
     }
 
     pub fn push_entry(&mut self, n: usize)
-        requires { ⌜ length (tablesOf (now self) .trail) < 4096 ⌝ ∗ ⌜ n < 4096 ⌝ }
+        requires { ⌜ length (tablesOf (now self) .trail) < 4096 ⌝ ∗ ⌜ n ≤ 4096 ⌝ }
         ensures { λ _. ⌜ tablesOf (now (self .exit)) ≡ pushEntry (tablesOf (now (self .entry))) n ⌝ }
     {
         self.trail.push(n as u16);

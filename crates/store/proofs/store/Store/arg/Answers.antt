@@ -6,7 +6,6 @@ use Rattle.cells.specs.Cells.{inRange}
 use Rattle.tables.specs.Views.{tablesOf}
 use Rattle.calls.specs.declared.Call.the-variants.{Arg}
 use Rattle.calls.specs.Steps.{State, argument, setArgument}
-use Rattle.calls.proofs.KeepCalls.{keep-arg}
 use Rattle.store.specs.States.{stateOf}
 use Rattle.store.specs.Called.{state}
 use Rattle.store.proofs.ChainSteps.{argument-word}
@@ -26,4 +25,4 @@ ghost-self c =
     let there : some (c .in-Some-argument .place) ≡ argument (tablesOf (s .memory)) (c .args .s) (c .args .i) = c .in-Some-argument .ensures tt in
     let made = ap (λ (o : Option ℕ). setArgument (state s) d o .1) there in
     let written : stateOf (c .set-register .last .self) (s .half) ≡ setArgument (state s) d (some (c .in-Some-argument .place)) .1 = search needs in
-    (whole-after (Arg d (c .args .s) (c .args .i)) (keep-arg d (c .args .s) (c .args .i)) s (c .set-register .last .self) (s .half) (c .in-rest .ensures tt) (written ∙ made), tt)
+    (whole-after (Arg d (c .args .s) (c .args .i)) s (c .set-register .last .self) (s .half) (c .in-rest .ensures tt) (written ∙ made), tt)

@@ -4,7 +4,6 @@ use Rattle.cells.specs.Cells.{inRange}
 use Rattle.tables.specs.Views.{tablesOf}
 use Rattle.heaps.proofs.KeptWords.{keeps-register}
 use Rattle.calls.specs.declared.Call.the-variants.{Move}
-use Rattle.calls.proofs.KeepCalls.{keep-move}
 use Rattle.store.proofs.Keeping.{stands, whole-after}
 use Rattle.store.proofs.store.Store.copy.Needs as need
 
@@ -16,4 +15,4 @@ set-register-requires c κs =
 pub ghost-self : need.ghost-self
 ghost-self c =
     let s = c .args .self .now in
-    (whole-after (Move (c .args .d) (c .args .s)) (keep-move (c .args .d) (c .args .s)) s (c .set-register .last .self) (s .half) (c .in-rest .ensures tt) (search needs), tt)
+    (whole-after (Move (c .args .d) (c .args .s)) s (c .set-register .last .self) (s .half) (c .in-rest .ensures tt) (search needs), tt)

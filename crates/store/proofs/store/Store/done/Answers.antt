@@ -10,7 +10,6 @@ use Rattle.calls.specs.declared.Draft.{Draft}
 use Rattle.calls.specs.declared.Call.the-variants.{Done}
 use Rattle.calls.specs.declared.Answer.{Answer}
 use Rattle.calls.specs.Steps.{Half, State, act}
-use Rattle.calls.proofs.KeepCalls.{keep-done}
 use Rattle.store.specs.declared.half.Half as made
 use Rattle.store.specs.States.{stateOf}
 use Rattle.store.specs.Called.{state}
@@ -43,7 +42,7 @@ ghost-self c =
     let half : Half = record { at = c .half-of-half .result .at; missing = c .half-of-half .result .missing } in
     let after = c .set-register .last .self in
     let ended = done-made (state s) slip half (c .half-of-half .ensures) (fine .0) (tablesOf (s .memory)) (tablesOf after) (c .args .d) (c .set-register .ensures) in
-    (whole-after call (keep-done slip (c .args .d)) s after None (c .in-rest .ensures tt) (ap (λ (x : Answer × State). x .1) ended), tt)
+    (whole-after call s after None (c .in-rest .ensures tt) (ap (λ (x : Answer × State). x .1) ended), tt)
 
 pub returns : need.returns
 returns c =

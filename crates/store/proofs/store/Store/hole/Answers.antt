@@ -10,7 +10,6 @@ use Rattle.calls.specs.declared.Call.the-variants.{Hole}
 use Rattle.calls.specs.declared.Answer.{Answer}
 use Rattle.calls.specs.declared.Answer.the-variants.{Hands}
 use Rattle.calls.specs.Steps.{Half, State, act}
-use Rattle.calls.proofs.KeepCalls.{keep-hole}
 use Rattle.store.specs.declared.half.Half as made
 use Rattle.store.specs.States.{stateOf}
 use Rattle.store.specs.Called.{state}
@@ -55,7 +54,7 @@ ghost-self c =
     let after = c .set-cell .last .self in
     let written = hole-made (state s) slip half (c .half-of-half .ensures) (fine .0) (tablesOf (s .memory)) (tablesOf after) (c .next-next .result) (c .next-next .ensures) (c .set-cell .ensures) in
     let fewer = ap (λ (h : made.Half). stateOf after (Some h)) (c .fewer .ensures) in
-    (whole-after call (keep-hole slip) s after (Some (c .fewer .result)) (c .in-rest .ensures tt) (fewer ∙ ap (λ (x : Answer × State). x .1) written), tt)
+    (whole-after call s after (Some (c .fewer .result)) (c .in-rest .ensures tt) (fewer ∙ ap (λ (x : Answer × State). x .1) written), tt)
 
 pub returns : need.returns
 returns c =

@@ -1,6 +1,5 @@
 use borrow.Author.Needs.{needs}
 use Rattle.calls.specs.declared.Call.the-variants.{Last}
-use Rattle.calls.proofs.KeepCalls.{keep-last}
 use Rattle.store.specs.Called.{state}
 use Rattle.store.proofs.Accepting.{accepted, choice-there}
 use Rattle.store.proofs.Keeping.{stands, whole-after}
@@ -14,4 +13,4 @@ go-back-requires c κs =
 pub ghost-self : need.ghost-self
 ghost-self c =
     let s = c .args .self .now in
-    (whole-after Last keep-last s (c .keep-choices .last .self) (s .half) (c .in-rest .ensures tt) (search needs), tt)
+    (whole-after Last s (c .keep-choices .last .self) (s .half) (c .in-rest .ensures tt) (search needs), tt)

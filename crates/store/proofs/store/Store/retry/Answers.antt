@@ -1,6 +1,5 @@
 use borrow.Author.Needs.{needs}
 use Rattle.calls.specs.declared.Call.the-variants.{Retry}
-use Rattle.calls.proofs.KeepCalls.{keep-retry}
 use Rattle.store.specs.Called.{state}
 use Rattle.store.proofs.Accepting.{accepted, choice-there}
 use Rattle.store.proofs.Keeping.{stands, whole-after}
@@ -14,4 +13,4 @@ go-back-requires c κs =
 pub ghost-self : need.ghost-self
 ghost-self c =
     let s = c .args .self .now in
-    (whole-after Retry keep-retry s (c .go-back .last .memory) (s .half) (c .in-rest .ensures tt) (search needs), tt)
+    (whole-after Retry s (c .go-back .last .memory) (s .half) (c .in-rest .ensures tt) (search needs), tt)

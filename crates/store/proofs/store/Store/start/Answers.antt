@@ -9,7 +9,6 @@ use Rattle.calls.specs.declared.Call.the-variants.{Start}
 use Rattle.calls.specs.declared.Draft.{Draft}
 use Rattle.calls.specs.declared.Answer.the-variants.{Hands}
 use Rattle.calls.specs.Steps.{State}
-use Rattle.calls.proofs.KeepCalls.{keep-start}
 use Rattle.store.specs.declared.half.Half.{Half}
 use Rattle.store.specs.Called.{state}
 use Rattle.store.proofs.Accepting.{accepted, step-accepted}
@@ -30,7 +29,7 @@ ghost-self c =
     let s = c .args .self .now in
     let half : Half = record { at = c .used-at .result; missing = c .args .arity } in
     let made = started (state s) (tablesOf (s .memory)) _ _ (c .args .name) (c .args .arity) (c .used-at .result) (c .used-at .ensures) (c .push-cell .ensures) (c .push-blanks .ensures) in
-    (whole-after (Start (c .args .name) (c .args .arity)) (keep-start (c .args .name) (c .args .arity)) s (c .push-blanks .last .memory) (Some half) (c .in-rest .ensures tt) made, tt)
+    (whole-after (Start (c .args .name) (c .args .arity)) s (c .push-blanks .last .memory) (Some half) (c .in-rest .ensures tt) made, tt)
 
 pub returns : need.returns
 returns c =

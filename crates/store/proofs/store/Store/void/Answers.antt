@@ -7,7 +7,6 @@ use Rattle.calls.specs.declared.Draft.{Draft}
 use Rattle.calls.specs.declared.Call.the-variants.{Void}
 use Rattle.calls.specs.declared.Answer.{Answer}
 use Rattle.calls.specs.Steps.{Half, State, act}
-use Rattle.calls.proofs.KeepCalls.{keep-void}
 use Rattle.store.specs.declared.half.Half as made
 use Rattle.store.specs.States.{stateOf}
 use Rattle.store.specs.Called.{state}
@@ -30,7 +29,7 @@ ghost-self c =
     let half : Half = record { at = c .half-of-half .result .at; missing = c .half-of-half .result .missing } in
     let after = c .cut-heap .last .self in
     let ended = void-made (state s) slip half (c .half-of-half .ensures) (fine .0) (tablesOf (s .memory)) (tablesOf after) (c .cut-heap .ensures) in
-    (whole-after call (keep-void slip) s after None (c .in-rest .ensures tt) (ap (λ (x : Answer × State). x .1) ended), tt)
+    (whole-after call s after None (c .in-rest .ensures tt) (ap (λ (x : Answer × State). x .1) ended), tt)
 
 pub returns : need.returns
 returns c =

@@ -1,0 +1,11 @@
+pub mod Fillings
+pub mod ImageReading
+pub mod InPlace
+pub mod ItemReads
+pub mod Listings
+pub mod NumbersRead
+pub mod Options
+pub mod PartNames
+pub mod ReaderLines
+pub mod Splits
+pub mod TokenReads
