@@ -46,5 +46,9 @@ pub enum Answer {
     Sees(Seen),
     Tells(Verdict),
     Hands(Draft),
-    Counts { used: u64, entries: u64, points: u64 },
+    Counts {
+        used: u64,
+        entries: u64,
+        points: u64,
+    },
 }
