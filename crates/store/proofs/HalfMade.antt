@@ -1,6 +1,6 @@
 -- A slip that is not refused belongs to the half-made structure; what put, hole, done and void then make of the state.
-use mathlib.Core.Path.{_≡_, refl, ap, ap₂, _∙_, sym}
-use mathlib.Core.Bool.{Bool, true, false, not, _&&_}
+use mathlib.Core.Path.{_≡_, ap, ap₂, _∙_, sym}
+use mathlib.Core.Bool.{true, false, _&&_}
 use mathlib.Core.Option.{Option, some, none}
 use Prim.Native.Nat.{ℕ, suc, pred, _+_, _-_, _<_, _≤_}
 use native.Mathlib.Omega.{arith}
@@ -13,10 +13,9 @@ use Rattle.tables.specs.Tables.{Tables, used, cellAt, register, setCell, setReg
 use Rattle.heaps.specs.Spelling.{arityOf}
 use Rattle.calls.specs.declared.Draft.{Draft}
 use Rattle.calls.specs.declared.Call.the-variants.{Put, Hole, Done, Void}
-use Rattle.calls.specs.declared.Answer.{Answer}
 use Rattle.calls.specs.declared.Answer.the-variants.{Nothing, Hands}
 use Rattle.calls.specs.Refusals.{sameDraft, wrongSlip}
-use Rattle.calls.specs.Steps.{Half, State, nameOf, draftOf, draft, nextArgument, write, onHalf, act}
+use Rattle.calls.specs.Steps.{Half, State, nameOf, draftOf, draft, nextArgument, write, act}
 use Rattle.calls.specs.Whole.{HalfStands, Whole}
 use Rattle.calls.proofs.KeepSteps.{some-stands, onHalf-some}
 
@@ -71,9 +70,6 @@ module _ (s : State) (slip : Draft) (h : Half) (is : s .half ≡ some h) (right 
         let few = half-stands .few in
         let some-left = eqb-false (slip .missing) 0 more in
         omega (arith, arity-is, missing-is)
-
-  pub still-missing : eqb (slip .missing) 0 ≡ false → 0 < h .missing
-  still-missing more = let some-left = eqb-false (slip .missing) 0 more in omega (arith, missing-is)
 
   -- the structure with one fewer missing
   abbrev pub rest : Half

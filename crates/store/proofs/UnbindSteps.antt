@@ -7,9 +7,9 @@ use lib.ListN.{length, getD, set, take, drop}
 use Rattle.std.proofs.shelf.Lists.{take-more, take-all, getD-drop, length-drop}
 use Rattle.cells.specs.declared.cell.Cell.{Cell}
 use Rattle.cells.specs.declared.cell.Cell.the-variants.{Reference}
-use Rattle.tables.specs.Tables.{Choice, Tables, used, withHeap, withRegisters, setCell, cutHeap, cutTrail, keepChoices, noChoice, choiceAt}
+use Rattle.tables.specs.Tables.{Choice, Tables, used, withHeap, withRegisters, setCell, cutHeap, cutTrail, noChoice, choiceAt}
 use Rattle.heaps.specs.Lists.{Each}
-use Rattle.heaps.specs.Levels.{unbindAll, retryOf, lastOf, retry, last}
+use Rattle.heaps.specs.Levels.{unbindAll, retryOf, retry}
 use Rattle.heaps.specs.Rules.{TopsFall, Rules}
 use Rattle.heaps.specs.LevelLaws.{Stands, HasChoice}
 use Rattle.heaps.proofs.UnbindLaws.{length-unbindAll}
@@ -74,13 +74,3 @@ back-retry t some = by (t .choices) some
         (retryOf cs t)
     by [] h = absurd (omega arith)
     by (c ∷ cs) h = refl
-
--- without its newest choice point, what going back leaves is what last leaves
-pub keep-last : (t : Tables) → HasChoice t → keepChoices (retry t) (length (t .choices) - 1) ≡ last t
-keep-last t some = by (t .choices) some
-  where
-    by : (cs : List Choice) → 0 < length cs → keepChoices (retryOf cs t) (length cs - 1) ≡ lastOf cs t
-    by [] h = absurd (omega arith)
-    by (c ∷ cs) h =
-        let one : length (c ∷ cs) - (length (c ∷ cs) - 1) ≡ 1 = omega arith in
-        ap (λ k. record { heap = lastOf (c ∷ cs) t .heap; registers = c .saved; trail = lastOf (c ∷ cs) t .trail; choices = drop k (c ∷ cs) }) one

@@ -1,7 +1,7 @@
 ghost use mathlib.Core.Path.{_≡_};
-ghost use Prim.Native.Nat.{_<_, _≤_};
+ghost use Prim.Native.Nat.{_≤_};
 ghost use lib.ListN.{length, drop};
-ghost use Rattle.tables.specs.Tables.{used, withHeap};
+ghost use Rattle.tables.specs.Tables.{withHeap};
 ghost use Rattle.tables.specs.Views.{tablesOf};
 ghost use Rattle.heaps.specs.Levels.{unbindAll, retry};
 ghost use Rattle.heaps.specs.LevelLaws.{Stands, HasChoice};

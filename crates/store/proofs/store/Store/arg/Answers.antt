@@ -5,7 +5,7 @@ use borrow.Author.Needs.{needs}
 use Rattle.cells.specs.Cells.{inRange}
 use Rattle.tables.specs.Views.{tablesOf}
 use Rattle.calls.specs.declared.Call.the-variants.{Arg}
-use Rattle.calls.specs.Steps.{State, argument, setArgument}
+use Rattle.calls.specs.Steps.{argument, setArgument}
 use Rattle.store.specs.States.{stateOf}
 use Rattle.store.specs.Called.{state}
 use Rattle.store.proofs.ChainSteps.{argument-word}

@@ -1,6 +1,5 @@
 use mathlib.Core.Path.{sym, subst, ap, _∙_}
 use Prim.Native.Nat.{_≤_, _<_}
-use native.Mathlib.Omega.{arith}
 use borrow.Author.Needs.{needs}
 use Rattle.cells.specs.Cells.{inRange}
 use Rattle.tables.specs.Tables.{used}

@@ -1,5 +1,4 @@
 use mathlib.Core.Path.{sym, subst}
-use Rattle.tables.specs.Tables.{Tables}
 use Rattle.heaps.specs.LevelLaws.{Stands}
 use Rattle.calls.proofs.KeepLaws.{whole-start}
 use Rattle.store.proofs.store.Store.new.Needs as need

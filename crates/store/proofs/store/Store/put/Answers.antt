@@ -1,16 +1,14 @@
-use mathlib.Core.Path.{_≡_, refl, sym, ap, ap₂, _∙_}
+use mathlib.Core.Path.{refl, sym, ap, ap₂, _∙_}
 use native.Mathlib.Omega.{arith}
 use Rattle.std.specs.declared.option.Option.the-variants.{Some}
-use Rattle.cells.specs.declared.cell.Cell.{Cell}
 use Rattle.cells.specs.Cells.{inRange}
-use Rattle.tables.specs.Tables.{used}
 use Rattle.tables.specs.Views.{tablesOf}
 use Rattle.heaps.proofs.KeptWords.{keeps-register}
 use Rattle.calls.specs.declared.Draft.{Draft}
 use Rattle.calls.specs.declared.Call.the-variants.{Put}
 use Rattle.calls.specs.declared.Answer.{Answer}
 use Rattle.calls.specs.declared.Answer.the-variants.{Hands}
-use Rattle.calls.specs.Steps.{Half, State, act}
+use Rattle.calls.specs.Steps.{Half, State}
 use Rattle.store.specs.declared.half.Half as made
 use Rattle.store.specs.States.{stateOf}
 use Rattle.store.specs.Called.{state}

@@ -1,9 +1,9 @@
-use mathlib.Core.Path.{_≡_, sym, ap, ap₂, _∙_}
-use Prim.Native.Nat.{ℕ, _+_, _≤_}
+use mathlib.Core.Path.{_≡_, sym, ap, _∙_}
+use Prim.Native.Nat.{_+_}
 use native.Mathlib.Omega.{arith}
 use Rattle.std.specs.declared.option.Option.the-variants.{Some}
 use Rattle.cells.specs.declared.cell.Cell.the-variants.{Functor}
-use Rattle.tables.specs.Tables.{Tables, used, pushCell}
+use Rattle.tables.specs.Tables.{used}
 use Rattle.tables.specs.Views.{tablesOf}
 use Rattle.calls.specs.declared.Call.the-variants.{Start}
 use Rattle.calls.specs.declared.Draft.{Draft}

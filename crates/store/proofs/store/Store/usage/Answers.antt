@@ -1,5 +1,4 @@
 use mathlib.Core.Path.{_≡_, sym, _∙_}
-use borrow.Author.Needs.{needs}
 use Rattle.tables.specs.Views.{tablesOf}
 use Rattle.calls.specs.declared.Answer.the-variants.{Counts}
 use Rattle.calls.specs.Steps.{usage}

@@ -1,18 +1,13 @@
-use mathlib.Core.Path.{_≡_, refl, sym, ap, ap₂, _∙_}
+use mathlib.Core.Path.{refl, sym, ap, _∙_}
 use Rattle.std.specs.declared.option.Option.the-variants.{None}
-use Rattle.cells.specs.declared.cell.Cell.{Cell}
-use Rattle.tables.specs.Tables.{Tables}
 use Rattle.tables.specs.Views.{tablesOf}
-use Rattle.calls.specs.declared.Draft.{Draft}
 use Rattle.calls.specs.declared.Call.the-variants.{Void}
 use Rattle.calls.specs.declared.Answer.{Answer}
-use Rattle.calls.specs.Steps.{Half, State, act}
-use Rattle.store.specs.declared.half.Half as made
-use Rattle.store.specs.States.{stateOf}
+use Rattle.calls.specs.Steps.{Half, State}
 use Rattle.store.specs.Called.{state}
 use Rattle.store.proofs.Accepting.{accepted, step-accepted, step-refused}
 use Rattle.store.proofs.HalfMade.{void-made}
-use Rattle.store.proofs.Keeping.{whole, whole-after}
+use Rattle.store.proofs.Keeping.{whole-after}
 use Rattle.store.proofs.store.Store.void.Needs as need
 
 pub returns-in-Some : need.returns-in-Some
