@@ -17,7 +17,7 @@ use marks::BitKeeper;
 use tables::Memory;
 
 // The lowest line that a rule finds at fault.
-pub fn first_line(rule: Rule, memory: &Memory, work: &mut Work) -> Option<u64>
+fn first_line(rule: Rule, memory: &Memory, work: &mut Work) -> Option<u64>
     ensures { λ r. ⌜ r ≡ lowestLine (partsOf (tablesOf (now (memory .entry))) rule) ⌝ }
 {
     match rule {

@@ -13,5 +13,4 @@ mod words;
 mod work;
 
 pub use first::first_fault;
-pub use first::first_line;
 pub use work::Work;
