@@ -1,0 +1,24 @@
+-- What is proved of images.
+use mathlib.Core.Path.{_≡_}
+use mathlib.Core.Bool.{true}
+use mathlib.Core.List.{List}
+use mathlib.Core.Logic.{_↔_}
+use Prim.Native.Nat.{ℕ, _^_, _<_}
+use Rattle.std.specs.declared.result.Result.the-variants.{Ok}
+use Rattle.images.specs.declared.item.Item.{Item}
+use Rattle.images.specs.declared.item.Item.the-variants as item
+use Rattle.images.specs.Lines.{lineRead}
+use Rattle.images.specs.Text.{lineOf}
+use Rattle.images.specs.Drafts.{inPlace}
+
+abbrev pub indexOf : Item → ℕ
+indexOf (item.Heap i c) = i
+indexOf (item.Register i c) = i
+indexOf (item.Trail i n) = i
+indexOf (item.HeapTop i n) = i
+indexOf (item.TrailTop i n) = i
+indexOf (item.Saved i c) = i
+
+-- A line is read as a place exactly where it is the text of that place, with a cell or a number in range.
+abbrev pub Line-is-text : Type 0
+Line-is-text = (n : ℕ) (line : List ℕ) (x : Item) → indexOf x < 10 ^ 10 → (lineRead n line ≡ Ok x) ↔ ((line ≡ lineOf x) × (inPlace x ≡ true))
