@@ -31,12 +31,11 @@ module _ {A : Type 0} (F : List A → Listing) (f : ℕ → A → Item) (limit :
   accepts-part : (i : ℕ) (xs ys : List A) → i ≡ length xs → length xs + length ys ≤ limit → Accepts (F xs) (numbered f i ys) (F (xs ++ ys))
   accepts-part i xs [] is h = ap F (sym (append-nil xs))
   accepts-part i xs (y ∷ ys) is h =
-      let room : length xs + suc (length ys) ≤ limit = h in
-      (
+      let room : length xs + suc (length ys) ≤ limit = h in (
         nexts xs i y is (omega arith),
         subst (λ l. Accepts l (numbered f (suc i) ys) (F (xs ++ (y ∷ ys)))) (sym (adds xs i y))
-        (subst (λ zs. Accepts (F (xs ++ (y ∷ []))) (numbered f (suc i) ys) (F zs)) (append-assoc xs (y ∷ []) ys)
-        (accepts-part (suc i) (xs ++ (y ∷ [])) ys (omega (arith, length-push xs y)) (omega (arith, length-push xs y)))),
+            (subst (λ zs. Accepts (F (xs ++ (y ∷ []))) (numbered f (suc i) ys) (F zs)) (append-assoc xs (y ∷ []) ys)
+            (accepts-part (suc i) (xs ++ (y ∷ [])) ys (omega (arith, length-push xs y)) (omega (arith, length-push xs y)))),
       )
 
 -- the places of a listing

@@ -7,6 +7,7 @@ pub mod ItemReads
 pub mod LinesBack
 pub mod Listed
 pub mod Listings
+pub mod LoadedTexts
 pub mod NumbersBack
 pub mod NumbersRead
 pub mod Options
@@ -14,5 +15,8 @@ pub mod PartNames
 pub mod Pieces
 pub mod ReaderLines
 pub mod Splits
+pub mod TablesBack
+pub mod TablesWritten
+pub mod TextRead
 pub mod TextsBack
 pub mod TokenReads
