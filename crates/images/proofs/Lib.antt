@@ -7,6 +7,7 @@ pub mod ItemReads
 pub mod LinesBack
 pub mod Listed
 pub mod Listings
+pub mod LoadedRules
 pub mod LoadedTexts
 pub mod NumbersBack
 pub mod NumbersRead

@@ -14,7 +14,7 @@ use Rattle.heaps.proofs.EachLaws.{each-append}
 use Rattle.images.specs.Text.{Listing, listingOf}
 use Rattle.images.specs.Reading.{over, choicesFrom, registersFrom, tablesFrom}
 
-over-all : (cells below : List Cell) → length below ≤ length cells → over cells below ≡ cells
+pub over-all : (cells below : List Cell) → length below ≤ length cells → over cells below ≡ cells
 over-all cells below h = ap (λ ys. cells ++ ys) (drop-all (length cells) below h) ∙ append-nil cells
 
 pub registers-all : (cells : List Cell) → length cells ≡ 8 → registersFrom cells ≡ cells

@@ -34,6 +34,10 @@ Read-text = (bytes : List ℕ) (t : Tables) → tablesIn bytes ≡ Ok t → byte
 abbrev pub Loaded-text : Type 0
 Loaded-text = (t : Tables) → Rules t → Fits t → loaded (textOf t) ≡ Ok t
 
+-- Bytes are loaded as tables exactly where they are the text of those tables, which keep the rules and fit the memory.
+abbrev pub Loaded-is-text : Type 0
+Loaded-is-text = (bytes : List ℕ) (t : Tables) → (loaded bytes ≡ Ok t) ↔ ((bytes ≡ textOf t) × Rules t × Fits t)
+
 -- Such tables have different texts.
 abbrev pub Text-one : Type 0
 Text-one = (t u : Tables) → Rules t → Fits t → Rules u → Fits u → textOf t ≡ textOf u → t ≡ u
