@@ -35,10 +35,10 @@ byLast-split {A} b xs last more = by (split b xs) (split-some b xs)
 
 -- what is read of bytes whose first line is cut off
 module _ (bytes line left : List ℕ) (cut : split 10 bytes ≡ line ∷ split 10 left) where
-  line-first : (l : Listing) (n : ℕ) → readLines l n (split 10 bytes) ≡ goOn l n (lineRead n line) (λ m. readLines m (suc n) (split 10 left))
+  pub line-first : (l : Listing) (n : ℕ) → readLines l n (split 10 bytes) ≡ goOn l n (lineRead n line) (λ m. readLines m (suc n) (split 10 left))
   line-first l n = ap (readLines l n) cut ∙ byLast-split 10 left _ _
 
-  head-first : readHead (split 10 bytes) ≡ afterHead (headRead 1 line) (readLines nothing 2 (split 10 left))
+  pub head-first : readHead (split 10 bytes) ≡ afterHead (headRead 1 line) (readLines nothing 2 (split 10 left))
   head-first = ap readHead cut ∙ byLast-split 10 left _ _
 
   pub head-good : (n : ℕ) → n ≡ 1 → Ok tt ≡ headRead n line → readHead (split 10 bytes) ≡ readLines nothing 2 (split 10 left)

@@ -7,3 +7,4 @@ pub mod Text
 pub mod Reading
 pub mod Drafts
 pub mod Readers
+pub mod ImageLaws

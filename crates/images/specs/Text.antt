@@ -8,6 +8,7 @@ use Rattle.cells.specs.declared.cell.Cell.{Cell}
 use Rattle.cells.specs.declared.cell.Cell.the-variants.{Reference, Pointer, Functor, Atom, Integer}
 use Rattle.cells.specs.Cells.{functorValue}
 use Rattle.tables.specs.Tables.{Choice, Tables}
+use Rattle.images.specs.declared.word.Part.{Part}
 use Rattle.images.specs.declared.word.Part.the-variants as part
 use Rattle.images.specs.declared.item.Item.{Item}
 use Rattle.images.specs.declared.item.Item.the-variants as item
@@ -47,28 +48,38 @@ itemsOf l =
     ++ (numbered item.HeapTop 0 (l .heapTops)
     ++ (numbered item.TrailTop 0 (l .trailTops) ++ numbered item.Saved 0 (l .saved)))))
 
--- the kind and the value of a cell
-abbrev pub cellText : Cell → List ℕ
-cellText (Reference n) = codes "r " ++ decimal n
-cellText (Pointer n) = codes "s " ++ decimal n
-cellText (Functor name arity) = codes "f " ++ decimal (functorValue name arity)
-cellText (Atom n) = codes "a " ++ decimal n
-cellText (Integer z) = codes "i " ++ signed z
+-- the letter of a cell's kind, and its value
+abbrev pub kindText : Cell → List ℕ
+kindText (Reference n) = codes "r"
+kindText (Pointer n) = codes "s"
+kindText (Functor name arity) = codes "f"
+kindText (Atom n) = codes "a"
+kindText (Integer z) = codes "i"
 
-abbrev pub numberText : ℕ → List ℕ
-numberText n = codes "n " ++ decimal n
+abbrev pub valueText : Cell → List ℕ
+valueText (Reference n) = decimal n
+valueText (Pointer n) = decimal n
+valueText (Functor name arity) = decimal (functorValue name arity)
+valueText (Atom n) = decimal n
+valueText (Integer z) = signed z
 
--- part, index, kind and value, with one space between
-abbrev pub line : List ℕ → ℕ → List ℕ → List ℕ
-line name i rest = name ++ (32 ∷ decimal i ++ (32 ∷ rest))
+-- four words with one space between
+abbrev pub line : List ℕ → List ℕ → List ℕ → List ℕ → List ℕ
+line name index kind value = name ++ (32 ∷ (index ++ (32 ∷ (kind ++ (32 ∷ value)))))
+
+abbrev pub cellLine : Part → ℕ → Cell → List ℕ
+cellLine p i c = line (partName p) (decimal i) (kindText c) (valueText c)
+
+abbrev pub numberLine : Part → ℕ → ℕ → List ℕ
+numberLine p i n = line (partName p) (decimal i) (codes "n") (decimal n)
 
 abbrev pub lineOf : Item → List ℕ
-lineOf (item.Heap i c) = line (partName part.Heap) i (cellText c)
-lineOf (item.Register i c) = line (partName part.Register) i (cellText c)
-lineOf (item.Trail i n) = line (partName part.Trail) i (numberText n)
-lineOf (item.HeapTop i n) = line (partName part.HeapTop) i (numberText n)
-lineOf (item.TrailTop i n) = line (partName part.TrailTop) i (numberText n)
-lineOf (item.Saved i c) = line (partName part.Saved) i (cellText c)
+lineOf (item.Heap i c) = cellLine part.Heap i c
+lineOf (item.Register i c) = cellLine part.Register i c
+lineOf (item.Trail i n) = numberLine part.Trail i n
+lineOf (item.HeapTop i n) = numberLine part.HeapTop i n
+lineOf (item.TrailTop i n) = numberLine part.TrailTop i n
+lineOf (item.Saved i c) = cellLine part.Saved i c
 
 -- byte 10 ends each line
 abbrev pub ended : List ℕ → List ℕ

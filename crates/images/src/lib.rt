@@ -12,4 +12,5 @@ mod word;
 pub use fault::LineFault;
 pub use fault::LoadFault;
 pub use fault::WordFault;
+pub use reading::images_are_texts;
 pub use reading::read;

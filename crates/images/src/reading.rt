@@ -1,6 +1,8 @@
 ghost use mathlib.Core.Path.{_≡_};
+ghost use mathlib.Core.Bool.{true};
 ghost use Rattle.images.specs.Reading.{tablesIn};
 ghost use Rattle.images.specs.Readers.{viewed};
+ghost use Rattle.images.specs.ImageLaws.{Line-is-text, Read-text, Loaded-is-text, Text-one};
 use super::draft::Draft;
 use super::fault::LoadFault;
 use super::fault::LoadFromLine;
@@ -27,4 +29,15 @@ pub fn read(image: &[u8]) -> Result<Memory, LoadFault>
             line: reader.number(),
         })
     }
+}
+
+// Images are the texts of tables: bytes are loaded as tables exactly where they are the text of those.
+pub fn images_are_texts() -> bool
+    ensures line { λ _. ⌜ Line-is-text ⌝ }
+    ensures read { λ _. ⌜ Read-text ⌝ }
+    ensures loaded { λ _. ⌜ Loaded-is-text ⌝ }
+    ensures one { λ _. ⌜ Text-one ⌝ }
+    ensures answer { λ r. ⌜ r ≡ true ⌝ }
+{
+    true // The laws of images.
 }
