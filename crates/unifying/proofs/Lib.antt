@@ -14,3 +14,5 @@ pub mod OccursLaws
 pub mod OccursWalk
 pub mod BindRoom
 pub mod UnbindLaws
+pub mod Bindings
+pub mod Meets

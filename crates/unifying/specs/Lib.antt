@@ -3,3 +3,4 @@ pub mod Laws
 pub mod Bytes
 pub mod Visits
 pub mod Unbinding
+pub mod Bindings

@@ -6,6 +6,7 @@ ghost use mathlib.Core.Bool.{true};
 ghost use Rattle.unifying.specs.Laws.{Memo-right, Same-right, Merges-fewer};
 
 mod binding;
+mod meeting;
 mod occurring;
 pub mod visits;
 
