@@ -12,3 +12,5 @@ pub mod Lasts
 pub mod LinkLaws
 pub mod ClassTables
 pub mod ChainSteps
+pub mod CompareSteps
+pub mod CompareTurns

@@ -3,3 +3,4 @@ pub mod Laws
 pub mod Links
 pub mod Classes
 pub mod Frames
+pub mod Comparing
