@@ -16,3 +16,9 @@ pub mod BindRoom
 pub mod UnbindLaws
 pub mod Bindings
 pub mod Meets
+pub mod Lasts
+pub mod LinkLaws
+pub mod ClassTables
+pub mod ChainSteps
+pub mod CompareSteps
+pub mod CompareTurns

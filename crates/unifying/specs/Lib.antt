@@ -4,3 +4,7 @@ pub mod Bytes
 pub mod Visits
 pub mod Unbinding
 pub mod Bindings
+pub mod Links
+pub mod Classes
+pub mod Frames
+pub mod Comparing

@@ -6,12 +6,22 @@ ghost use mathlib.Core.Bool.{true};
 ghost use Rattle.unifying.specs.Laws.{Memo-right, Same-right, Merges-fewer};
 
 mod binding;
+mod chains;
+mod classes;
+mod comparing;
+mod frames;
 mod meeting;
+mod merged;
 mod occurring;
-pub mod visits;
+mod popping;
+mod visits;
 
 pub use binding::bind;
 pub use binding::unbind;
+pub use chains::end_of;
+pub use classes::Classes;
+pub use comparing::same;
+pub use frames::Frames;
 pub use occurring::occurs;
 pub use visits::VisitTable;
 

@@ -16,10 +16,10 @@ ghost use Rattle.unifying.specs.Merging.{bothPointers};
 ghost use Rattle.unifying.specs.Bindings.{Noted, Stepped, EndsChain, Met};
 ghost use Rattle.unifying.specs.Visits.{visited};
 use super::binding::bind;
+use super::comparing::same_word;
 use super::occurring::occurs;
 use super::visits::VisitTable;
 use cells::Cell;
-use cells::cell::CellPartialEq as _;
 use tables::Memory;
 use tables::Stack;
 
@@ -112,12 +112,4 @@ pub(crate) fn meet_ends(
             _ => same_word(a, b),
         },
     }
-}
-
-// Whether two words are the same.
-fn same_word(a: Cell, b: Cell) -> bool
-    ensures same { λ r. ⌜ (r ≡ true → a ≡ b) ⌝ }
-    ensures other { λ r. ⌜ (r ≡ false → a ≡ b → ⊥) ⌝ }
-{
-    a == b
 }
