@@ -1,8 +1,10 @@
 pub mod Merging
 pub mod Laws
-pub mod Links
-pub mod Classes
-pub mod Frames
 pub mod Bytes
 pub mod Visits
 pub mod Unbinding
+pub mod Bindings
+pub mod Links
+pub mod Classes
+pub mod Frames
+pub mod Comparing
