@@ -1,4 +1,5 @@
 //! Binding cells, giving bindings up, and going back to a choice point.
+#![tactic(auto)]
 
 mod binding;
 mod undoing;

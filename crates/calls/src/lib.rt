@@ -1,4 +1,6 @@
 // The calls of a store and their answers.
+#![tactic(auto)]
+
 pub mod keeping;
 pub mod unifying;
 

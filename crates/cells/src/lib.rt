@@ -1,4 +1,6 @@
 // The cells of the store, the words that hold them, and the numbers of refusals and answers.
+#![tactic(auto)]
+
 pub mod answer;
 pub mod cell;
 pub mod refusal;

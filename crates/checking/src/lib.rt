@@ -1,4 +1,5 @@
 //! The first fault of tables: the lowest broken rule, with its lowest line at fault.
+#![tactic(auto)]
 
 mod cell_rules;
 mod first;

@@ -1,4 +1,5 @@
 //! Tests of the first fault: a table for each rule that it breaks, and heaps of full size.
+#![tactic(auto)]
 
 #[cfg(test)]
 mod tests {

@@ -1,4 +1,5 @@
 //! Classes of cells that were set equal, as trees with ranks.
+#![tactic(auto)]
 
 mod classes;
 mod merged;

@@ -1,4 +1,6 @@
 // Echoes of a weld inspection, the rules that explain them, and the lines that list them.
+#![tactic(auto)]
+
 pub mod echo;
 pub mod line;
 pub mod rule;

@@ -1,5 +1,6 @@
 //! What collectors mean and what they must show; copying, sliding and the two layers as changes of tables.
 //! The definitions are in `specs/`. Each function states laws in its contract, so that callers can cite them.
+#![tactic(auto)]
 
 ghost use Rattle.std.specs.Prelude.{◌≡◌, true};
 ghost use Rattle.collectors.specs.Layers.{PiledShows, PiledWithin};

@@ -1,4 +1,5 @@
 //! Rule 7: the lowest cell on a cycle, in time linear in the cells.
+#![tactic(auto)]
 
 mod certificate;
 mod first;

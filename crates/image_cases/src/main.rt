@@ -1,5 +1,7 @@
 // Runs the cases of loading that are given on standard input. For each it prints what was answered, and whether that
 // was expected. docs/IMAGES.md, "Test cases", says how cases are written.
+#![tactic(auto)]
+
 use std::alloc::{AllocError, Global};
 use std::io;
 use std::io::Read;

@@ -1,5 +1,7 @@
 // Reads an image from standard input and prints what there is to say of it, as six numbers:
 // refusal, broken rule, line, and the cells, trail entries and choice points in use.
+#![tactic(auto)]
+
 use loading::describe;
 use std::io;
 use std::io::Read;

@@ -1,5 +1,6 @@
 //! The lines of an image: handing them out, and reading the place that a line fills.
 //! The format is in docs/IMAGES.md, its definition in `specs/Words.antt` and `specs/Lines.antt`.
+#![tactic(auto)]
 
 pub mod fault;
 pub mod item;

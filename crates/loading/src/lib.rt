@@ -1,4 +1,5 @@
 //! Loading an image: its layout is read, and then the table rules are checked.
+#![tactic(auto)]
 
 mod checked;
 mod described;

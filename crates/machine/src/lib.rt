@@ -1,4 +1,5 @@
 //! The tree machine, the law over runs and the worked examples: definitions in `specs/`, laws in `proofs/`.
+#![tactic(auto)]
 
 ghost use Rattle.std.specs.Prelude.{◌≡◌, true};
 ghost use Rattle.machine.specs.Examples.{Worked, WorkedSlips};

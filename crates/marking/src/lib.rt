@@ -1,4 +1,6 @@
 // Marking everything that words reach, with any mark keeper.
+#![tactic(auto)]
+
 mod pending;
 mod roots;
 mod walk;

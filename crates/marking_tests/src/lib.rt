@@ -1,4 +1,5 @@
 // Tests of marking: both mark keepers go through one list of memories.
+#![tactic(auto)]
 
 mod inside;
 #[cfg(test)]

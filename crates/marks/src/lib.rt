@@ -1,5 +1,6 @@
 // Mark keepers: sets of cell numbers that a collector fills while it marks.
 // `Marks` is the interface, `ByteMarks` and `BitMarks` are its two implementations.
+#![tactic(auto)]
 
 ghost use Rattle.std.specs.Prelude.{◌≡◌, ℕ, ◌≤◌, Bool, false};
 ghost use Rattle.marks.specs.Sets.{none, with_cell, count_below};

@@ -1,6 +1,7 @@
 // Times both mark keepers on a full heap.
 // A round empties the set, marks every cell and asks for each of them.
 // Standard output has what was found, and standard error the time.
+#![tactic(auto)]
 
 use marks::{BitMarks, ByteMarks, CELLS, Marks, count_below};
 use std::io;

@@ -1,4 +1,5 @@
 // Tests of the mark keepers: both go through one list, at the edges of words and of the heap.
+#![tactic(auto)]
 
 #[cfg(test)]
 mod tests {

@@ -1,4 +1,5 @@
 //! The occurs check, with a visit table that is blank between two checks.
+#![tactic(auto)]
 
 mod occurring;
 mod visits;

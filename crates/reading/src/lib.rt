@@ -1,4 +1,5 @@
 //! Reading words: where they lead, and what their chains end at.
+#![tactic(auto)]
 
 mod chains;
 mod words;

@@ -1,4 +1,5 @@
 //! With what a call is refused, in the order of the refusals' numbers.
+#![tactic(auto)]
 
 mod arguments;
 mod half;

@@ -1,5 +1,7 @@
 // Reads a list of calls from standard input, one to a line, carries them out on one store, and prints each line with
 // its answer. docs/REPLAY.md has the lines and the answers.
+#![tactic(auto)]
+
 use replaying::{Bench, Entry, Reply, parse};
 use std::io;
 use std::io::{BufRead, BufReader, BufWriter, Write};

@@ -1,5 +1,6 @@
 //! Lists of calls: what a line asks for, and carrying it out on one store.
 //! The lines and the answers are in docs/REPLAY.md, their definitions in `specs/`.
+#![tactic(auto)]
 
 pub mod bench;
 pub mod parsing;

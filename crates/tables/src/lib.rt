@@ -1,4 +1,6 @@
 // The fixed memory of a store: heap, trail, choice points and registers.
+#![tactic(auto)]
+
 pub mod memory;
 pub mod stack;
 

@@ -1,5 +1,6 @@
 //! Terms, unification and renamings: definitions in `specs/`, laws in `proofs/`.
 //! Each function here states laws in its contract, so that callers can cite them.
+#![tactic(auto)]
 
 ghost use Rattle.std.specs.Prelude.{◌≡◌, true};
 ghost use Rattle.terms.specs.Laws.{RobinsonExact, RobinsonMostGeneral, AlikeUnify, SameDecides};

@@ -1,5 +1,6 @@
 //! Rules 5 and 8: trail entries, and what choice points see once entries are undone.
 //! Both searches keep a set of the cells that trail entries name.
+#![tactic(auto)]
 
 mod entries;
 mod levels;

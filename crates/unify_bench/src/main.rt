@@ -1,5 +1,7 @@
 // Times unify and same on terms that share structure: two chains of 600 nested f(X, X), each built on its own, which as trees
 // would have 2^600 leaves. Standard output has the answers, and standard error the time of a round.
+#![tactic(auto)]
+
 use replaying::{Bench, Reply, Request};
 use std::io;
 use std::time::Instant;

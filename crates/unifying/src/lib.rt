@@ -1,5 +1,6 @@
 //! Unifying and comparing words whose terms share structure: pairs of structures already set equal are not gone through again.
 //! Definitions are in `specs/`, laws in `proofs/`. Each function states laws in its contract, so that callers can cite them.
+#![tactic(auto)]
 
 ghost use Rattle.std.specs.Prelude.{◌≡◌, true};
 ghost use Rattle.unifying.specs.Laws.{MemoRight, SameRight, MergesFewer};

@@ -1,4 +1,6 @@
 // The example task: an echo is put into the tables of a store, labelled, and read back.
+#![tactic(auto)]
+
 use cells::Cell;
 use std::io;
 use tables::Memory;

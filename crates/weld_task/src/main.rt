@@ -1,5 +1,7 @@
 // The rule task of a handheld instrument for pipe welds: echoes are taken for the root of the weld, for flaws or for
 // geometry, by rules that are tried on a store. The echoes come from standard input; where that is empty, an example is taken.
+#![tactic(auto)]
+
 use calls::{Answer, Call};
 use classifying::{Echo, Label, RULES, echo_in, verdict};
 use std::io;

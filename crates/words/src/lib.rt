@@ -1,4 +1,5 @@
 //! What a word of the tables is, and whether it leads wrong.
+#![tactic(auto)]
 
 mod arguments;
 mod kinds;

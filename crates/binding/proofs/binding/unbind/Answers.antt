@@ -18,8 +18,8 @@ loop-bound-init c = (refl, refl, c.requires.inside)
 pub at-at-requires : goal.at-at-requires
 at-at-requires c = (omega arith, omega (arith, c.loop-bound-test.true, c.len.ensures, c.len-last.ensures))
 
-pub set-cell-requires : goal.set-cell-requires
-set-cell-requires c =
+pub set_cell-requires : goal.set_cell-requires
+set_cell-requires c =
     let t = tables_of c.args.memory.now in
     let xs = listed c.loop-bound.bound in
     let n = c.len-last.result in
@@ -35,10 +35,10 @@ loop-bound-preserved c =
     let n = c.len-last.result in
     let x = c.at-at.result in
     let some : 0 < n = omega (arith, c.loop-bound-test.true, c.len.ensures, c.len-last.ensures) in (
-      ap₂ (λ (u : Tables) (ys : List ℕ). with_heap u (unbind_all u.heap (reverse ys))) c.set-cell.ensures c.truncate.ensures
+      ap₂ (λ (u : Tables) (ys : List ℕ). with_heap u (unbind_all u.heap (reverse ys))) c.set_cell.ensures c.truncate.ensures
           ∙ ap (with_heap t) (unbind_last t.heap xs x n some c.len-last.ensures c.at-at.ensures)
           ∙ c.loop-bound.invariant.0,
-      ap used c.set-cell.ensures ∙ length-set t.heap x (Reference x) ∙ c.loop-bound.invariant.1,
+      ap used c.set_cell.ensures ∙ length-set t.heap x (Reference x) ∙ c.loop-bound.invariant.1,
       subst (Each (λ k. k < used (tables_of c.args.memory.now))) (sym c.truncate.ensures) (each_take _ (n - 1) xs c.loop-bound.invariant.2),
     )
 
@@ -53,7 +53,7 @@ returns c =
     let t = tables_of c.loop-bound.memory in
     record {
       tables =
-          c.cut-trail.ensures
+          c.cut_trail.ensures
           ∙ ap (λ (u : Tables). cut_trail u c.args.top) (ap (λ ys. with_heap t (unbind_all t.heap (reverse ys))) (sym none) ∙ c.loop-bound.invariant.0);
       empty = none;
     }

@@ -5,25 +5,25 @@ use Rattle.heaps.specs.Levels.{unbind_all}
 use Rattle.binding.proofs.UnbindSteps.{newest_trail, back_retry}
 use Rattle.binding.proofs.undoing.go_back.Goals as goal
 
-pub unbind-from-requires : goal.unbind-from-requires
-unbind-from-requires c =
+pub unbind_from-requires : goal.unbind_from-requires
+unbind_from-requires c =
     let t = tables_of c.args.memory.now in
-    record { stands = c.requires.stands; inside = omega (arith, c.trail-top-trail-top.ensures, newest_trail t c.requires.stands.0 c.requires.some) }
+    record { stands = c.requires.stands; inside = omega (arith, c.trail_top-trail_top.ensures, newest_trail t c.requires.stands.0 c.requires.some) }
 
-pub restore-registers-requires : goal.restore-registers-requires
-restore-registers-requires c =
+pub restore_registers-requires : goal.restore_registers-requires
+restore_registers-requires c =
     let choices : Tables → List Choice = λ t. t.choices in
-    let same = ap choices c.cut-heap.ensures ∙ ap choices c.cut-trail.ensures ∙ ap choices c.unbind-from.ensures in
+    let same = ap choices c.cut_heap.ensures ∙ ap choices c.cut_trail.ensures ∙ ap choices c.unbind_from.ensures in
     subst (λ (cs : List Choice). 0 < length cs) (sym same) c.requires.some
 
 pub returns : goal.returns
 returns c =
     let t = tables_of c.args.memory.now in
-    let heap-top = c.heap-top-heap-top.result in
-    let trail-top = c.trail-top-trail-top.result in
+    let heap-top = c.heap_top-heap_top.result in
+    let trail-top = c.trail_top-trail_top.result in
     let cut : ℕ → ℕ → Tables = λ e h. cut_heap (cut_trail (with_heap t (unbind_all t.heap (drop e t.trail))) e) h in
-    let done : tables_of c.cut-heap.new.self ≡ cut trail-top heap-top =
-    c.cut-heap.ensures ∙ ap (λ (u : Tables). cut_heap u heap-top) (c.cut-trail.ensures ∙ ap (λ (u : Tables). cut_trail u trail-top) c.unbind-from.ensures) in
-    c.restore-registers.ensures
-    ∙ ap (λ (u : Tables). with_registers u (choice_at u 0).saved) (done ∙ ap₂ cut c.trail-top-trail-top.ensures c.heap-top-heap-top.ensures)
+    let done : tables_of c.cut_heap.new.self ≡ cut trail-top heap-top =
+    c.cut_heap.ensures ∙ ap (λ (u : Tables). cut_heap u heap-top) (c.cut_trail.ensures ∙ ap (λ (u : Tables). cut_trail u trail-top) c.unbind_from.ensures) in
+    c.restore_registers.ensures
+    ∙ ap (λ (u : Tables). with_registers u (choice_at u 0).saved) (done ∙ ap₂ cut c.trail_top-trail_top.ensures c.heap_top-heap_top.ensures)
     ∙ back_retry t c.requires.some

@@ -14,8 +14,8 @@ entry-at-requires c =
     let same : (tables_of c.loop-i.memory).trail ≡ (tables_of c.args.memory.now).trail = ap (λ (t : Tables). t.trail) c.loop-i.invariant in
     omega (arith, ap length same)
 
-pub set-cell-requires : goal.set-cell-requires
-set-cell-requires c =
+pub set_cell-requires : goal.set_cell-requires
+set_cell-requires c =
     let t = tables_of c.args.memory.now in
     let i = c.loop-i.i in
     let inside : i < length t.trail = omega arith in
@@ -31,7 +31,7 @@ loop-i-preserved c =
     let i = c.loop-i.i in
     let inside : i < length t.trail = omega arith in
     let is = c.entry-at.ensures ∙ ap (λ (u : Tables). get_or u.trail i 0) c.loop-i.invariant in
-    c.set-cell.ensures
+    c.set_cell.ensures
     ∙ ap₂ (λ (u : Tables) (e : ℕ). set_cell u e (Reference e)) c.loop-i.invariant is
     ∙ undone_more t c.args.top i c.loop-i.auto.i inside
 

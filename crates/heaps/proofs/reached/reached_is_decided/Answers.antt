@@ -10,7 +10,7 @@ pub returns : goal.returns
 returns c =
     record {
       roots = roots_keep;
-      words-used = words_reach_used;
+      words_used = words_reach_used;
       used = reached_used;
       words = words_decided;
       decided = reached_decided;

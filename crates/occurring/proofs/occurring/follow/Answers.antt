@@ -4,8 +4,8 @@ use Rattle.occurring.specs.Visits.{visited, with_visit, visit_all}
 use Rattle.occurring.proofs.VisitLaws.{leads_end, all_more}
 use Rattle.occurring.proofs.occurring.follow.Goals as goal
 
-pub overflow-add-n-end : goal.overflow-add-n-end
-overflow-add-n-end c =
+pub overflow_add-n-end : goal.overflow_add-n-end
+overflow_add-n-end c =
     let end = leads_end c.args.at c.args.word c.requires.at c.requires.inside in
     let below : c.leads-start.result.0 + c.leads-start.result.1 ≤ 4096 = omega (arith, end, c.leads-start.ensures.first, c.leads-start.ensures.many) in
     search (rules, below)

@@ -28,7 +28,7 @@ returns-then-at-x c =
     let lt : c.loop-place.place < length vs = omega (arith, c.loop-place-test.true, c.len.ensures.count) in
     record {
       answer =
-          c.refers-to.ensures
+          c.refers_to.ensures
           ∙ walked_found t c.requires.stands c.args.word c.requires.keeps c.args.x vs c.loop-place.place (c.loop-place.invariant.1 c.args.word first) c.at-at.result
           c.cell-held.result c.at-at.ensures c.cell-held.ensures lt c.if-at-x.true;
       blank = search rules;

@@ -11,13 +11,13 @@ use Rattle.refusing.proofs.arguments.argument.Goals as goal
 pub returns-then-s-gt7 : goal.returns-then-s-gt7
 returns-then-s-gt7 c = sym (argument_none (tables_of c.args.memory.now) c.args.s c.args.i c.requires c.if-s-gt7.true)
 
-pub end-of-end-requires : goal.end-of-end-requires
-end-of-end-requires c =
+pub end_of-end-requires : goal.end_of-end-requires
+end_of-end-requires c =
     let t = tables_of c.args.memory.now in
     record { stands = c.requires; keeps = subst (Keeps t) (sym c.register.ensures) (keeps_register t c.args.s c.requires) }
 
-pub overflow-add-result : goal.overflow-add-result
-overflow-add-result c =
+pub overflow_add-result : goal.overflow_add-result
+overflow_add-result c =
     let t = tables_of c.args.memory.now in
     let n = c.in-Pointer.n in
     let inside : n < used t = c.in-Pointer.ensures.keeps.0.0 in

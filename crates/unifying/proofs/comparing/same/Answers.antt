@@ -63,6 +63,6 @@ pub returns : goal.returns
 returns c =
     let t = tables_of c.args.memory.now in
     let e = c.compare.ensures in
-    let run = c.loop-i.invariant.run true (drawn_none comparing t (merges c.loop-i.classes) true (ap option_of c.in-default.is) c.next.ensures finished) in
+    let run = c.loop-i.invariant.run true (drawn_none comparing t (merges c.loop-i.classes) true (ap option_of c.in_default.is) c.next.ensures finished) in
     same_right t c.args.left c.args.right true c.requires.stands c.requires.left c.requires.right
     (from_start t t _ _ c.clear.ensures c.clear-2.ensures e (e.on c.if-not-compare.false true run))

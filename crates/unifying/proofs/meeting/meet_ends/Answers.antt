@@ -7,14 +7,14 @@ use Rattle.unifying.proofs.Bindings.{stepped_none}
 use Rattle.unifying.proofs.Meets.{met_bound, meet_word, word_meet, constants_met}
 use Rattle.unifying.proofs.meeting.meet_ends.Goals as goal
 
-pub returns-in-default-b : goal.returns-in-default-b
-returns-in-default-b c =
+pub returns-in_default-b : goal.returns-in_default-b
+returns-in_default-b c =
     let t = tables_of c.args.memory.now in
-    let e = c.bind-to.ensures in
+    let e = c.bind_to.ensures in
     record {
       met =
-          met_bound t (tables_of c.bind-to.new.memory) c.args.a c.args.b c.bind-to.result
-          (λ ps. ap (λ (a : Cell). meet t a c.args.b ps) c.in-Reference.is ∙ meet_word t c.in-Reference.x c.args.b c.requires.right c.in-default-b.not-Reference ps ∙ e.next ps);
+          met_bound t (tables_of c.bind_to.new.memory) c.args.a c.args.b c.bind_to.result
+          (λ ps. ap (λ (a : Cell). meet t a c.args.b ps) c.in-Reference.is ∙ meet_word t c.in-Reference.x c.args.b c.requires.right c.in_default-b.not-Reference ps ∙ e.next ps);
       stepped = e.stepped;
       empty = e.empty;
     }
@@ -22,20 +22,20 @@ returns-in-default-b c =
 pub returns-in-Reference-b-2 : goal.returns-in-Reference-b-2
 returns-in-Reference-b-2 c =
     let t = tables_of c.args.memory.now in
-    let e = c.bind-to-in-Reference-b-2.ensures in
+    let e = c.bind_to-in-Reference-b-2.ensures in
     record {
       met =
-          met_bound t (tables_of c.bind-to-in-Reference-b-2.new.memory) c.args.a c.args.b c.bind-to-in-Reference-b-2.result
-          (λ ps. ap (λ (b : Cell). meet t c.args.a b ps) c.in-Reference-b-2.is ∙ word_meet t c.args.a c.in-Reference-b-2.y c.requires.left c.in-default.not-Reference ps ∙ e.next ps);
+          met_bound t (tables_of c.bind_to-in-Reference-b-2.new.memory) c.args.a c.args.b c.bind_to-in-Reference-b-2.result
+          (λ ps. ap (λ (b : Cell). meet t c.args.a b ps) c.in-Reference-b-2.is ∙ word_meet t c.args.a c.in-Reference-b-2.y c.requires.left c.in_default.not-Reference ps ∙ e.next ps);
       stepped = e.stepped;
       empty = e.empty;
     }
 
-pub returns-in-default-b-2 : goal.returns-in-default-b-2
-returns-in-default-b-2 c =
+pub returns-in_default-b-2 : goal.returns-in_default-b-2
+returns-in_default-b-2 c =
     let t = tables_of c.args.memory.now in
     record {
-      met = constants_met t c.args.a c.args.b c.same-word.result c.requires.left c.requires.right c.in-default.not-Reference c.in-default-b-2.not-Reference c.requires.apart c.same-word.ensures.same c.same-word.ensures.other;
+      met = constants_met t c.args.a c.args.b c.same_word.result c.requires.left c.requires.right c.in_default.not-Reference c.in_default-b-2.not-Reference c.requires.apart c.same_word.ensures.same c.same_word.ensures.other;
       stepped = stepped_none t (listed c.args.bound.now) c.requires.stands c.requires.noted;
       empty = c.requires.empty;
     }

@@ -4,23 +4,23 @@ use Rattle.tables.specs.Views.{tables_of}
 use Rattle.unifying.proofs.Bindings.{stepped_none, variable_bindable, meet_lower, meet_higher, meet_itself}
 use Rattle.unifying.proofs.meeting.meet_variables.Goals as goal
 
-pub note-binding-requires : goal.note-binding-requires
-note-binding-requires c =
+pub note_binding-requires : goal.note_binding-requires
+note_binding-requires c =
     record {
       stands = c.requires.stands;
       bindable =
-          variable_bindable (tables_of c.args.memory.now) c.args.y c.args.x c.requires.stands c.requires.right c.requires.left c.requires.right-free c.requires.left-free
+          variable_bindable (tables_of c.args.memory.now) c.args.y c.args.x c.requires.stands c.requires.right c.requires.left c.requires.right_free c.requires.left_free
           (λ e. omega arith);
       range = c.requires.left.1;
       noted = c.requires.noted;
     }
 
-pub note-binding-requires-then-y-x : goal.note-binding-requires-then-y-x
-note-binding-requires-then-y-x c =
+pub note_binding-requires-then-y-x : goal.note_binding-requires-then-y-x
+note_binding-requires-then-y-x c =
     record {
       stands = c.requires.stands;
       bindable =
-          variable_bindable (tables_of c.args.memory.now) c.args.x c.args.y c.requires.stands c.requires.left c.requires.right c.requires.left-free c.requires.right-free
+          variable_bindable (tables_of c.args.memory.now) c.args.x c.args.y c.requires.stands c.requires.left c.requires.right c.requires.left_free c.requires.right_free
           (λ e. omega arith);
       range = c.requires.right.1;
       noted = c.requires.noted;
@@ -29,15 +29,15 @@ note-binding-requires-then-y-x c =
 pub returns-then-x-y : goal.returns-then-x-y
 returns-then-x-y c =
     record {
-      met = meet_lower (tables_of c.args.memory.now) c.args.x c.args.y _ (omega arith) c.note-binding.ensures.tables;
-      stepped = c.note-binding.ensures.stepped;
+      met = meet_lower (tables_of c.args.memory.now) c.args.x c.args.y _ (omega arith) c.note_binding.ensures.tables;
+      stepped = c.note_binding.ensures.stepped;
     }
 
 pub returns-then-y-x : goal.returns-then-y-x
 returns-then-y-x c =
     record {
-      met = meet_higher (tables_of c.args.memory.now) c.args.x c.args.y _ (omega arith) c.note-binding-then-y-x.ensures.tables;
-      stepped = c.note-binding-then-y-x.ensures.stepped;
+      met = meet_higher (tables_of c.args.memory.now) c.args.x c.args.y _ (omega arith) c.note_binding-then-y-x.ensures.tables;
+      stepped = c.note_binding-then-y-x.ensures.stepped;
     }
 
 pub returns-else-y-x : goal.returns-else-y-x

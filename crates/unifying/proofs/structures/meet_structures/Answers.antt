@@ -10,19 +10,19 @@ use Rattle.classes.proofs.ClassTables.{merges_few}
 use Rattle.unifying.proofs.Functors.{functors_clash, functors_join}
 use Rattle.unifying.proofs.structures.meet_structures.Goals as goal
 
-pub returns-then-same-class : goal.returns-then-same-class
-returns-then-same-class c = skips (sym c.if-same-class.ensures)
+pub returns-then-same_class : goal.returns-then-same_class
+returns-then-same_class c = skips (sym c.if-same_class.ensures)
 
-pub returns-then-not-same-word : goal.returns-then-not-same-word
-returns-then-not-same-word c =
+pub returns-then-not-same_word : goal.returns-then-not-same_word
+returns-then-not-same_word c =
     functors_clash (tables_of c.args.memory.now) c.args.p c.args.q c.requires.left c.requires.right (merges c.args.classes.now) (pairs c.args.frames.now)
-    (sym c.if-same-class.ensures) (λ s. c.same-word.ensures.other c.if-not-same-word.true (c.cell-functor.ensures ∙ s ∙ sym c.cell.ensures))
+    (sym c.if-same_class.ensures) (λ s. c.same_word.ensures.other c.if-not-same_word.true (c.cell-functor.ensures ∙ s ∙ sym c.cell.ensures))
 
-pub overflow-cast-arity-of : goal.overflow-cast-arity-of
-overflow-cast-arity-of c =
+pub overflow_cast-arity_of : goal.overflow_cast-arity_of
+overflow_cast-arity_of c =
     let t = tables_of c.args.memory.now in
     let small = arity_small (cell_at t c.args.p) (cell_ranged t c.requires.stands.1 c.args.p c.requires.left.0.0) in
-    let is = c.arity-of.ensures ∙ ap arity_of c.cell-functor.ensures in
+    let is = c.arity_of.ensures ∙ ap arity_of c.cell-functor.ensures in
     omega arith
 
 pub push-requires : goal.push-requires
@@ -31,5 +31,5 @@ push-requires c = omega (arith, merges_few c.args.classes.now, c.requires.room)
 pub returns : goal.returns
 returns c =
     functors_join (tables_of c.args.memory.now) c.args.p c.args.q c.requires.left c.requires.right (merges c.args.classes.now) (pairs c.args.frames.now)
-    (sym c.if-same-class.ensures) (merges c.merge.new.self) (pairs c.push.new.self) c.arity-of.result
-    (sym c.cell-functor.ensures ∙ c.same-word.ensures.same c.if-not-same-word.false ∙ c.cell.ensures) c.merge.ensures (c.arity-of.ensures ∙ ap arity_of c.cell-functor.ensures) c.push.ensures
+    (sym c.if-same_class.ensures) (merges c.merge.new.self) (pairs c.push.new.self) c.arity_of.result
+    (sym c.cell-functor.ensures ∙ c.same_word.ensures.same c.if-not-same_word.false ∙ c.cell.ensures) c.merge.ensures (c.arity_of.ensures ∙ ap arity_of c.cell-functor.ensures) c.push.ensures

@@ -17,13 +17,13 @@ use Rattle.unifying.proofs.walking.advance.Goals as goal
 ends_chain : (t : Tables) → Stands t → (a c : Cell) → c ≡ end t a → EndsChain t c
 ends_chain t st a c is n e = end_ends t st.0 a n (sym is ∙ e)
 
-pub meet-structures-requires : goal.meet-structures-requires
-meet-structures-requires c =
+pub meet_structures-requires : goal.meet_structures-requires
+meet_structures-requires c =
     let t = tables_of c.args.memory.now in
     record {
       stands = c.requires.stands;
-      left = subst (Keeps t) c.in-Some.ensures.0 c.end-of-a.ensures.keeps;
-      right = subst (Keeps t) c.in-Some.ensures.1 c.end-of-b.ensures.keeps;
+      left = subst (Keeps t) c.in-Some.ensures.0 c.end_of-a.ensures.keeps;
+      right = subst (Keeps t) c.in-Some.ensures.1 c.end_of-b.ensures.keeps;
       room = c.requires.room;
     }
 
@@ -34,19 +34,19 @@ returns-in-Some c =
     record {
       advanced =
           structures_advanced unifying t c.args.left c.args.right c.in-Some.p c.in-Some.q c.requires.stands c.requires.left c.requires.right
-          (subst (Keeps t) is.0 c.end-of-a.ensures.keeps) (sym c.end-of-a.ensures.end ∙ is.0) (sym c.end-of-b.ensures.end ∙ is.1) c.meet-structures.ensures;
+          (subst (Keeps t) is.0 c.end_of-a.ensures.keeps) (sym c.end_of-a.ensures.end ∙ is.0) (sym c.end_of-b.ensures.end ∙ is.1) c.meet_structures.ensures;
       stepped = stepped_none t (bound_in c.args.work.now) c.requires.stands c.requires.noted;
     }
 
-pub meet-ends-requires : goal.meet-ends-requires
-meet-ends-requires c =
+pub meet_ends-requires : goal.meet_ends-requires
+meet_ends-requires c =
     let t = tables_of c.args.memory.now in
     record {
       stands = c.requires.stands;
-      left = c.end-of-a.ensures.keeps;
-      right = c.end-of-b.ensures.keeps;
-      left_end = ends_chain t c.requires.stands c.args.left c.end-of-a.result c.end-of-a.ensures.end;
-      right_end = ends_chain t c.requires.stands c.args.right c.end-of-b.result c.end-of-b.ensures.end;
+      left = c.end_of-a.ensures.keeps;
+      right = c.end_of-b.ensures.keeps;
+      left_end = ends_chain t c.requires.stands c.args.left c.end_of-a.result c.end_of-a.ensures.end;
+      right_end = ends_chain t c.requires.stands c.args.right c.end_of-b.result c.end_of-b.ensures.end;
       apart = c.in-None.ensures;
       empty = c.args.work.now.blank;
       noted = c.requires.noted;
@@ -57,7 +57,7 @@ returns-in-None c =
     let t = tables_of c.args.memory.now in
     record {
       advanced =
-          ends_advanced t (tables_of c.meet-ends.new.memory) c.args.left c.args.right c.end-of-a.result c.end-of-b.result c.end-of-a.ensures.end c.end-of-b.ensures.end
-          c.in-None.ensures c.meet-ends.ensures.stepped.keeps (merges_in c.args.work.now) (pairs_in c.args.work.now) c.meet-ends.ensures.met;
-      stepped = c.meet-ends.ensures.stepped;
+          ends_advanced t (tables_of c.meet_ends.new.memory) c.args.left c.args.right c.end_of-a.result c.end_of-b.result c.end_of-a.ensures.end c.end_of-b.ensures.end
+          c.in-None.ensures c.meet_ends.ensures.stepped.keeps (merges_in c.args.work.now) (pairs_in c.args.work.now) c.meet_ends.ensures.met;
+      stepped = c.meet_ends.ensures.stepped;
     }

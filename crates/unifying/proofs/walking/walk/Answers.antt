@@ -83,7 +83,7 @@ pub returns : goal.returns
 returns c =
     let e = c.advance.ensures in
     let u = tables_of c.loop-i.memory in
-    let run = c.loop-i.invariant.0.run (some u) (drawn_none unifying u (merges_in c.loop-i.work) (some u) (ap option_of c.in-default.is) c.next.ensures finished) in
+    let run = c.loop-i.invariant.0.run (some u) (drawn_none unifying u (merges_in c.loop-i.work) (some u) (ap option_of c.in_default.is) c.next.ensures finished) in
     record {
       run = from_start _ _ _ _ c.requires.idle.unmerged c.requires.idle.done e.advanced (e.advanced.on c.if-not-advance.false (some u) run);
       stepped = bare _ _ _ _ c.requires.idle.unbound (stepped_on e.stepped c.loop-i.invariant.1);

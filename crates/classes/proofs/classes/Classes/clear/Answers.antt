@@ -9,7 +9,11 @@ blank-requires c =
     let linked = table_linked c.args.self.now in
     record { joined = linked.joined; untouched = linked.untouched }
 
-pub invariant-of-self : goal.invariant-of-self
-invariant-of-self c =
+pub invariant_of-self : goal.invariant_of-self
+invariant_of-self c =
     let bare = linked_none (at c.blank.new.links) (at c.blank.new.ranks) c.blank.ensures.links c.blank.ensures.ranks in
-    (c.blank.ensures.whole.0, (c.blank.ensures.whole.1, (∣ subst (λ ms. Linked ms (at c.blank.new.links) (at c.blank.new.ranks)) (sym c.blank.ensures.empty) bare ∣₁, tt)))
+    record {
+      links_whole = c.blank.ensures.whole.0;
+      ranks_whole = c.blank.ensures.whole.1;
+      linked = ∣ subst (λ ms. Linked ms (at c.blank.new.links) (at c.blank.new.ranks)) (sym c.blank.ensures.empty) bare ∣₁;
+    }

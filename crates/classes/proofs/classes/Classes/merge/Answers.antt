@@ -32,8 +32,8 @@ hang-requires-then-over-under c =
           b.class.below a.class.below c.if-over-under.true (omega arith) (omega (arith, low));
     }
 
-pub overflow-add-under : goal.overflow-add-under
-overflow-add-under c =
+pub overflow_add-under : goal.overflow_add-under
+overflow_add-under c =
     let low = (table_linked c.args.self.now).low c.root-a.result in
     let few = merges_few c.args.self.now in
     omega arith

@@ -5,8 +5,8 @@ use Rattle.tables.specs.Tables.{Tables, choice_at, set_choice, push_choice, with
 use Rattle.images.proofs.Fillings.{next_heap_top, length_choices, heap_top_put, low_push}
 use Rattle.images.proofs.draft.Draft.put_heap_top.Goals as goal
 
-pub push-choice-requires : goal.push-choice-requires
-push-choice-requires c =
+pub push_choice-requires : goal.push_choice-requires
+push_choice-requires c =
     let l = c.requires.listing in
     let f = next_heap_top l c.args.i c.args.n c.requires.next in
     omega (arith, f.0, f.1, ap (λ (t : Tables). length t.choices) c.requires.holds.tables, length_choices l)
@@ -18,7 +18,7 @@ returns c =
     let n = c.args.n in
     let topped : Tables → Tables = λ t. set_choice t 0 (with_tops (choice_at t 0) n 0) in
     record {
-      tables = c.set-tops.ensures ∙ ap topped (c.push-choice.ensures ∙ ap push_choice h.tables) ∙ heap_top_put l i n next;
+      tables = c.set_tops.ensures ∙ ap topped (c.push_choice.ensures ∙ ap push_choice h.tables) ∙ heap_top_put l i n next;
       registers = h.registers;
       heap_tops_count = omega (arith, h.heap_tops_count, length_push l.heap_tops n);
       trail_tops_count = h.trail_tops_count;

@@ -10,7 +10,7 @@ returns c =
     let i = c.args.i in
     let cell = c.args.cell in
     record {
-      tables = c.set-register.ensures ∙ ap (λ t. set_register t i cell) h.tables ∙ register_put l i cell next;
+      tables = c.set_register.ensures ∙ ap (λ t. set_register t i cell) h.tables ∙ register_put l i cell next;
       registers = omega (arith, h.registers, length_push l.registers cell);
       heap_tops_count = h.heap_tops_count;
       trail_tops_count = h.trail_tops_count;

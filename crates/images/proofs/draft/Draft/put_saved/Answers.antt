@@ -4,8 +4,8 @@ use Rattle.tables.specs.Tables.{Tables, choice_at, set_choice, with_saved}
 use Rattle.images.proofs.Fillings.{next_saved, length_choices, saved_put}
 use Rattle.images.proofs.draft.Draft.put_saved.Goals as goal
 
-pub set-saved-requires : goal.set-saved-requires
-set-saved-requires c =
+pub set_saved-requires : goal.set_saved-requires
+set_saved-requires c =
     let l = c.requires.listing in
     let f = next_saved l c.args.i c.args.cell c.requires.next in (
       omega (arith, f.1, c.requires.holds.heap_tops_count, ap (λ (t : Tables). length t.choices) c.requires.holds.tables, length_choices l),
@@ -20,7 +20,7 @@ returns c =
     let k = c.args.self.now.heap_tops - 1 - i / 8 in
     record {
       tables =
-          c.set-saved.ensures ∙ ap (λ t. set_choice t k (with_saved (choice_at t k) (i % 8) cell)) h.tables
+          c.set_saved.ensures ∙ ap (λ t. set_choice t k (with_saved (choice_at t k) (i % 8) cell)) h.tables
           ∙ saved_put l i k cell next (ap (λ tops. tops - 1 - i / 8) h.heap_tops_count);
       registers = h.registers;
       heap_tops_count = h.heap_tops_count;

@@ -7,21 +7,21 @@ use Rattle.images.specs.Reading.{tables_from}
 use Rattle.images.proofs.Fillings.{next_trail_top, length_choices, trail_top_put, heap_top_low}
 use Rattle.images.proofs.draft.Draft.put_trail_top.Goals as goal
 
-pub heap-top-heap-top-requires : goal.heap-top-heap-top-requires
-heap-top-heap-top-requires c =
+pub heap_top-heap_top-requires : goal.heap_top-heap_top-requires
+heap_top-heap_top-requires c =
     let l = c.requires.listing in
     let f = next_trail_top l c.args.i c.args.n c.requires.next in
     omega (arith, f.1, c.requires.holds.heap_tops_count, ap (λ (t : Tables). length t.choices) c.requires.holds.tables, length_choices l)
 
-pub set-tops-requires : goal.set-tops-requires
-set-tops-requires c =
+pub set_tops-requires : goal.set_tops-requires
+set_tops-requires c =
     let l = c.requires.listing in
     let d = c.args.self.now in
     let k = d.heap_tops - 1 - c.args.i in
     let f = next_trail_top l c.args.i c.args.n c.requires.next in
     let inside : k < length l.heap_tops = omega (arith, f.1, c.requires.holds.heap_tops_count) in
-    let same : c.heap-top-heap-top.result ≡ (choice_at (tables_from l) k).heap_top =
-    c.heap-top-heap-top.ensures ∙ ap (λ t. (choice_at t k).heap_top) c.requires.holds.tables in (
+    let same : c.heap_top-heap_top.result ≡ (choice_at (tables_from l) k).heap_top =
+    c.heap_top-heap_top.ensures ∙ ap (λ t. (choice_at t k).heap_top) c.requires.holds.tables in (
       omega (arith, inside, ap (λ (t : Tables). length t.choices) c.requires.holds.tables, length_choices l),
       (omega (arith, same, heap_top_low l k inside c.requires.holds.low), leb-true c.args.n 4096 c.requires.ranged),
     )
@@ -36,7 +36,7 @@ returns c =
     let m = tables_of c.args.self.now.memory in
     record {
       tables =
-          c.set-tops.ensures ∙ ap (λ top. set_choice m k (with_tops (choice_at m k) top n)) c.heap-top-heap-top.ensures
+          c.set_tops.ensures ∙ ap (λ top. set_choice m k (with_tops (choice_at m k) top n)) c.heap_top-heap_top.ensures
           ∙ ap topped h.tables ∙ trail_top_put l i n k next (ap (λ tops. tops - 1 - i) h.heap_tops_count);
       registers = h.registers;
       heap_tops_count = h.heap_tops_count;

@@ -4,17 +4,17 @@ use Rattle.lines.proofs.line.Line.item.Goals as goal
 
 pub item-requires : goal.item-requires
 item-requires c =
-    let s = c.in-ok-words.ensures in (
+    let s = c.in_ok-words.ensures in (
       subst (λ w. length w ≤ 10) (sym s.reads_index.0.bytes) (short _ s.reads_index.1),
       subst (λ w. length w ≤ 10) (sym s.reads_value.0.bytes) (short _ s.reads_value.1),
     )
 
-pub returns-in-err-item : goal.returns-in-err-item
-returns-in-err-item c =
-    line_fails c.in-ok-words.words c.args.self.text.now c.in-ok-words.ensures c.args.self.number _ _
-    c.from-residual-in-err-item.ensures.1 c.in-err-item.ensures
+pub returns-in_err-item : goal.returns-in_err-item
+returns-in_err-item c =
+    line_fails c.in_ok-words.words c.args.self.text.now c.in_ok-words.ensures c.args.self.number _ _
+    c.from_residual-in_err-item.ensures.1 c.in_err-item.ensures
 
 pub returns : goal.returns
 returns c =
-    line_works c.in-ok-words.words c.args.self.text.now c.in-ok-words.ensures c.args.self.number _
-    c.in-ok-item.ensures
+    line_works c.in_ok-words.words c.args.self.text.now c.in_ok-words.ensures c.args.self.number _
+    c.in_ok-item.ensures

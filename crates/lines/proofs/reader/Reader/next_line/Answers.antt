@@ -10,14 +10,14 @@ pub returns-then-n-bytes : goal.returns-then-n-bytes
 returns-then-n-bytes c =
     let image = c.args.self.now.image.now in
     let at = c.args.self.now.at in
-    (refl, some_left image at (search rules), line_whole image at _ c.length-before-n.ensures.0 (search rules))
+    (refl, some_left image at (search rules), line_whole image at _ c.length_before-n.ensures.0 (search rules))
 
 pub returns : goal.returns
 returns c =
     let image = c.args.self.now.image.now in
     let at = c.args.self.now.at in
     record {
-      line = line_cut image at _ c.length-before-n.ensures.0 (search rules);
+      line = line_cut image at _ c.length_before-n.ensures.0 (search rules);
       number = refl;
       next = refl;
       shorter = less_left image at _ (search rules);

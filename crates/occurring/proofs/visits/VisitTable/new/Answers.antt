@@ -4,7 +4,11 @@ use Rattle.occurring.specs.Bytes.{zeros, Ones}
 use Rattle.occurring.proofs.ByteLaws.{ones_blank, zeros_blank}
 use Rattle.occurring.proofs.visits.VisitTable.new.Goals as goal
 
-pub invariant-of-result : goal.invariant-of-result
-invariant-of-result c =
+pub invariant_of-result : goal.invariant_of-result
+invariant_of-result c =
     let none = c.new.ensures in
-    (refl, (subst (Ones (replicate 4096 0)) (sym none) (ones_blank 4096), (omega (arith, zeros_blank 4096, ap length none), tt)))
+    record {
+      whole = refl;
+      ones = subst (Ones (replicate 4096 0)) (sym none) (ones_blank 4096);
+      count = omega (arith, zeros_blank 4096, ap length none);
+    }

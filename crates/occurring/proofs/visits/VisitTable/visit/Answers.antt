@@ -12,13 +12,15 @@ push-requires c =
     let fewer = zeros_set v.bytes c.args.n low c.if-self-n-eq0.true in
     (omega arith, omega (arith, fewer, v.count))
 
-pub invariant-of-self : goal.invariant-of-self
-invariant-of-self c =
+pub invariant_of-self : goal.invariant_of-self
+invariant_of-self c =
     let v = c.args.self.now in
     let n = c.args.n in
     let low : n < length v.bytes = omega (arith, c.requires, v.whole) in
     let fewer = zeros_set v.bytes n low c.if-self-n-eq0.true in
-    let longer = ap length c.push.ensures ∙ length_push (listed v.cells) n in (
-      length-set v.bytes n 1 ∙ v.whole,
-      (subst (Ones (set v.bytes n 1)) (sym c.push.ensures) (ones_set v.bytes (listed v.cells) v.ones n low), (omega (arith, fewer, longer, v.count), tt)),
-    )
+    let longer = ap length c.push.ensures ∙ length_push (listed v.cells) n in
+    record {
+      whole = length-set v.bytes n 1 ∙ v.whole;
+      ones = subst (Ones (set v.bytes n 1)) (sym c.push.ensures) (ones_set v.bytes (listed v.cells) v.ones n low);
+      count = omega (arith, fewer, longer, v.count);
+    }

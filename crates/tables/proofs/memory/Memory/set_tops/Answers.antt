@@ -5,5 +5,5 @@ use Rattle.tables.proofs.memory.Memory.set_tops.Goals as goal
 
 pub returns : goal.returns
 returns c =
-    c.set-point.ensures
-    ∙ ap (λ (p : Choice). set_choice (tables_of c.args.self.now) c.args.k (with_tops p c.args.heap-top c.args.trail-top)) c.point-point.ensures
+    c.set_point.ensures
+    ∙ ap (λ (p : Choice). set_choice (tables_of c.args.self.now) c.args.k (with_tops p c.args.heap_top c.args.trail_top)) c.point-point.ensures

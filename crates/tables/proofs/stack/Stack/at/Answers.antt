@@ -2,8 +2,8 @@ use Rattle.std.proofs.Common.{◌<◌, ◌≤◌, length, arith, rules}
 use Rattle.tables.proofs.Listed.{within, get_or_listed}
 use Rattle.tables.proofs.stack.Stack.at.Goals as goal
 
-pub offset-bounds-self-place : goal.offset-bounds-self-place
-offset-bounds-self-place g c =
+pub offset_bounds-self-place : goal.offset_bounds-self-place
+offset_bounds-self-place g c =
     let s = c.args.self.now in
     let low : c.args.place < s.len = within s.items s.len c.args.place (search rules) c.requires in
     search rules

@@ -2,8 +2,8 @@ use Rattle.std.proofs.Common.{◌<◌, ◌≤◌, length, rules}
 use Rattle.tables.proofs.Listed.{within, take_set_in}
 use Rattle.tables.proofs.stack.Stack.set.Goals as goal
 
-pub offset-bounds-self-i : goal.offset-bounds-self-i
-offset-bounds-self-i g c =
+pub offset_bounds-self-i : goal.offset_bounds-self-i
+offset_bounds-self-i g c =
     let s = c.args.self.now in
     let low : c.args.i < s.len = within s.items s.len c.args.i (search rules) c.requires in
     search rules

@@ -8,11 +8,11 @@ use Rattle.unifying.proofs.frames.Frames.next.Goals as goal
 pub loop-self-init : goal.loop-self-init
 loop-self-init c = (c.requires, λ o qs d. d)
 
-pub overflow-add-frame : goal.overflow-add-frame
-overflow-add-frame c = let low = ((subst (Each Inside) c.pop-frame.ensures c.loop-self.invariant.0).0 c.if-frame-gt0.true).0 in omega arith
+pub overflow_add-frame : goal.overflow_add-frame
+overflow_add-frame c = let low = ((subst (Each Inside) c.pop-frame.ensures c.loop-self.invariant.0).0 c.if-frame-gt0.true).0 in omega arith
 
-pub overflow-add-frame-then-frame-gt0 : goal.overflow-add-frame-then-frame-gt0
-overflow-add-frame-then-frame-gt0 c = let low = ((subst (Each Inside) c.pop-frame.ensures c.loop-self.invariant.0).0 c.if-frame-gt0.true).1 in omega arith
+pub overflow_add-frame-then-frame-gt0 : goal.overflow_add-frame-then-frame-gt0
+overflow_add-frame-then-frame-gt0 c = let low = ((subst (Each Inside) c.pop-frame.ensures c.loop-self.invariant.0).0 c.if-frame-gt0.true).1 in omega arith
 
 pub push-requires : goal.push-requires
 push-requires c = omega (arith, frames_few c.loop-self.self, ap length c.pop-frame.ensures)
