@@ -6,7 +6,7 @@ pub loop-rule-init : goal.loop-rule-init
 loop-rule-init c = order_start (tables_of c.args.memory.now)
 
 pub loop-rule-preserved : goal.loop-rule-preserved
-loop-rule-preserved c = order_more (tables_of c.args.memory.now) c.loop-rule.rule-index c.loop-rule-test.true c.loop-rule.invariant c.in-default.ensures
+loop-rule-preserved c = order_more (tables_of c.args.memory.now) c.loop-rule.rule-index c.loop-rule-test.true c.loop-rule.invariant c.in_default.ensures
 
 pub returns-in-Some : goal.returns-in-Some
 returns-in-Some c =

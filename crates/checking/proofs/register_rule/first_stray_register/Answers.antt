@@ -3,13 +3,13 @@ use Rattle.heaps.proofs.Searches.{in_second}
 use Rattle.tables.proofs.Lengths.{used_fits, trail_fits, depth_fits}
 use Rattle.checking.proofs.register_rule.first_stray_register.Goals as goal
 
-pub lowest-line-requires : goal.lowest-line-requires
-lowest-line-requires c = omega (arith, used_fits c.args.memory.now, trail_fits c.args.memory.now, depth_fits c.args.memory.now)
+pub lowest_line-requires : goal.lowest_line-requires
+lowest_line-requires c = omega (arith, used_fits c.args.memory.now, trail_fits c.args.memory.now, depth_fits c.args.memory.now)
 
-pub lowest-line-requires-2 : goal.lowest-line-requires-2
-lowest-line-requires-2 c = omega (arith, used_fits c.args.memory.now, trail_fits c.args.memory.now, depth_fits c.args.memory.now)
+pub lowest_line-requires-2 : goal.lowest_line-requires-2
+lowest_line-requires-2 c = omega (arith, used_fits c.args.memory.now, trail_fits c.args.memory.now, depth_fits c.args.memory.now)
 
 pub returns : goal.returns
 returns c =
-    in_second c.register-line-line.result c.saved-line-line.result _ _ _ _ c.lowest-line-2.result
-    c.register-line-line.ensures c.saved-line-line.ensures c.in-default.ensures c.lowest-line-2.ensures
+    in_second c.register_line-line.result c.saved_line-line.result _ _ _ _ c.lowest_line-2.result
+    c.register_line-line.ensures c.saved_line-line.ensures c.in_default.ensures c.lowest_line-2.ensures

@@ -11,7 +11,7 @@ loop-i-preserved c i lt =
     elim (cases_eq i c.loop-i.i) [
       | inl e ↦
           subst (λ (x : ℕ). (j : ℕ) → Leads (heap_of (tables_of c.args.memory.now).heap) x j → j < used (tables_of c.args.memory.now) → rank x ≤ rank j) (sym e)
-          (λ j l k. let a = c.leads-below.ensures c.if-leads-below.false j l k in omega (arith, a, c.get-rank.ensures.number))
+          (λ j l k. let a = c.leads_below.ensures c.if-leads_below.false j l k in omega (arith, a, c.get-rank.ensures.number))
       | inr e ↦ c.loop-i.invariant i (omega arith)
     ]
 

@@ -6,14 +6,14 @@ use Rattle.heaps.specs.RuleTests.{on_cycle}
 use Rattle.heaps.proofs.Searches.{lowest_found, lowest_none}
 use Rattle.cycles.proofs.slow.first_gathered.Goals as goal
 
-pub returns-then-lies-on-cycle : goal.returns-then-lies-on-cycle
-returns-then-lies-on-cycle g c =
+pub returns-then-lies_on_cycle : goal.returns-then-lies_on_cycle
+returns-then-lies_on_cycle g c =
     let t = tables_of c.args.memory.now in
     sym (lowest_found (on_cycle (heap_of t.heap) (used t)) (used t) c.loop-cell.cell (omega (arith, c.used-cell-end.ensures))
-    (sym c.lies-on-cycle.ensures ∙ c.if-lies-on-cycle.true) c.loop-cell.invariant)
+    (sym c.lies_on_cycle.ensures ∙ c.if-lies_on_cycle.true) c.loop-cell.invariant)
 
 pub loop-cell-preserved : goal.loop-cell-preserved
-loop-cell-preserved g c = below_more _ _ c.loop-cell.invariant (sym c.lies-on-cycle.ensures ∙ c.if-lies-on-cycle.false)
+loop-cell-preserved g c = below_more _ _ c.loop-cell.invariant (sym c.lies_on_cycle.ensures ∙ c.if-lies_on_cycle.false)
 
 pub returns : goal.returns
 returns g c =

@@ -6,4 +6,4 @@ pub returns-then-marked : goal.returns-then-marked
 returns-then-marked g c = record { found = λ e. absurd (false≢true e); missed = λ e. inl (sym c.marked.ensures ∙ c.if-marked.true) }
 
 pub returns : goal.returns
-returns g c = record { found = c.leads-into.ensures.found; missed = λ e. inr (c.leads-into.ensures.missed e) }
+returns g c = record { found = c.leads_into.ensures.found; missed = λ e. inr (c.leads_into.ensures.missed e) }

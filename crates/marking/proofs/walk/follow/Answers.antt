@@ -6,8 +6,8 @@ use Rattle.marking.proofs.Ends.{leads_end}
 use Rattle.marking.proofs.Notes.{noted_none, noted_then, noted_as}
 use Rattle.marking.proofs.walk.follow.Goals as goal
 
-pub overflow-add-n-end : goal.overflow-add-n-end
-overflow-add-n-end g c =
+pub overflow_add-n-end : goal.overflow_add-n-end
+overflow_add-n-end g c =
     let end = leads_end c.args.at c.args.word c.requires.at c.requires.inside in
     let below : c.leads-start.result.0 + c.leads-start.result.1 ≤ 4096 = omega (arith, end, c.leads-start.ensures.first, c.leads-start.ensures.many) in
     search (rules, below)

@@ -8,11 +8,11 @@ use Rattle.marking_tests.proofs.inside.inside.Goals as goal
 pub loop-k-preserved : goal.loop-k-preserved
 loop-k-preserved c =
     below_more (λ n. WordsLead (choice_at (tables_of c.args.memory.now) n).saved) c.loop-k.k c.loop-k.invariant
-    (c.saved-inside.ensures c.if-not-saved-inside.false)
+    (c.saved_inside.ensures c.if-not-saved_inside.false)
 
 pub returns : goal.returns
 returns c e = (
-  c.cells-inside.ensures c.if-not-cells-inside.false,
-  roots_inside (tables_of c.args.memory.now) (c.registers-inside.ensures c.if-not-registers-inside.false)
+  c.cells_inside.ensures c.if-not-cells_inside.false,
+  roots_inside (tables_of c.args.memory.now) (c.registers_inside.ensures c.if-not-registers_inside.false)
       (λ p low. c.loop-k.invariant p (omega (arith, low, c.loop-k-test.false, c.depth-k-end.ensures))),
 )

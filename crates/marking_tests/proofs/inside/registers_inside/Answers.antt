@@ -9,7 +9,7 @@ pub loop-r-preserved : goal.loop-r-preserved
 loop-r-preserved c =
     let t = tables_of c.args.memory.now in
     below_more (λ n. Inside 0 (register t n)) c.loop-r.r c.loop-r.invariant
-    (inside_as 0 c.register.result (register t c.loop-r.r) c.register.ensures (c.word-inside.ensures c.if-not-word-inside.false))
+    (inside_as 0 c.register.result (register t c.loop-r.r) c.register.ensures (c.word_inside.ensures c.if-not-word_inside.false))
 
 pub returns : goal.returns
 returns c e =

@@ -10,7 +10,7 @@ pub loop-r-preserved : goal.loop-r-preserved
 loop-r-preserved c =
     let ws = (choice_at (tables_of c.args.memory.now) c.args.k).saved in
     below_more (λ n. Inside 0 (get_or ws n (Atom 0))) c.loop-r.r c.loop-r.invariant
-    (inside_as 0 c.saved.result (get_or ws c.loop-r.r (Atom 0)) c.saved.ensures (c.word-inside.ensures c.if-not-word-inside.false))
+    (inside_as 0 c.saved.result (get_or ws c.loop-r.r (Atom 0)) c.saved.ensures (c.word_inside.ensures c.if-not-word_inside.false))
 
 pub returns : goal.returns
 returns c e =

@@ -22,12 +22,12 @@ told m s j e r f is result =
     ∙ ap (λ (x : ℕ). misnames (heap_of (tables_of m).heap) (used (tables_of m)) x || s x) (sym is)
     ∙ sym result
 
-pub returns-then-stray-entry : goal.returns-then-stray-entry
-returns-then-stray-entry g c =
+pub returns-then-stray_entry : goal.returns-then-stray_entry
+returns-then-stray_entry g c =
     let m = c.args.memory.now in
     let inside : c.loop-j.j < length (tables_of m).trail = omega arith in
     sym (lowest_found (stray m) (length (tables_of m).trail) c.loop-j.j inside
-    (told m (g.M.Marks.has c.loop-j.named) c.loop-j.j _ _ c.loop-j.invariant.1 c.entry-entry.ensures c.stray-entry.ensures ∙ c.if-stray-entry.true)
+    (told m (g.M.Marks.has c.loop-j.named) c.loop-j.j _ _ c.loop-j.invariant.1 c.entry-entry.ensures c.stray_entry.ensures ∙ c.if-stray_entry.true)
     c.loop-j.invariant.0)
 
 pub loop-j-init : goal.loop-j-init
@@ -39,7 +39,7 @@ loop-j-preserved g c =
     let s = g.M.Marks.has c.loop-j.named in
     let inside : c.loop-j.j < length (tables_of m).trail = omega arith in
     let here : stray m c.loop-j.j ≡ false =
-    told m s c.loop-j.j _ _ c.loop-j.invariant.1 c.entry-entry.ensures c.stray-entry.ensures ∙ c.if-stray-entry.false in (
+    told m s c.loop-j.j _ _ c.loop-j.invariant.1 c.entry-entry.ensures c.stray_entry.ensures ∙ c.if-stray_entry.false in (
       below_more _ _ c.loop-j.invariant.0 here,
       λ k lt.
           ap (λ (u : ℕ → Bool). u k) (c.mark.ensures ∙ ap (with_cell s) c.entry-entry.ensures)

@@ -25,26 +25,26 @@ told m p s top start i w r a b f is result =
     ap₂ (λ (t : ℕ) (x : Cell). leads_past t i x) (sym a) (sym (is ∙ seen_same (tables_of m).heap (used_fits m) s (drop p.trail_top (tables_of m).trail) named i))
     ∙ sym result
 
-pub returns-then-leads-past : goal.returns-then-leads-past
-returns-then-leads-past g c =
+pub returns-then-leads_past : goal.returns-then-leads_past
+returns-then-leads_past g c =
     let m = c.args.memory.now in
     let p = choice_at (tables_of m) c.args.point in
-    sym (from_some (past m p) 0 p.heap_top c.loop-i.i (omega arith) (omega (arith, c.heap-top-top.ensures))
-    (told m p (g.M.Marks.has c.name-from.new.undone) c.heap-top-top.result c.trail-top.result c.loop-i.i c.seen.result c.leads-past.result
-    c.heap-top-top.ensures c.trail-top.ensures c.name-from.ensures c.seen.ensures c.leads-past.ensures
-    ∙ c.if-leads-past.true))
+    sym (from_some (past m p) 0 p.heap_top c.loop-i.i (omega arith) (omega (arith, c.heap_top-top.ensures))
+    (told m p (g.M.Marks.has c.name_from.new.undone) c.heap_top-top.result c.trail_top.result c.loop-i.i c.seen.result c.leads_past.result
+    c.heap_top-top.ensures c.trail_top.ensures c.name_from.ensures c.seen.ensures c.leads_past.ensures
+    ∙ c.if-leads_past.true))
 
 pub loop-i-preserved : goal.loop-i-preserved
 loop-i-preserved g c =
     let m = c.args.memory.now in
     let p = choice_at (tables_of m) c.args.point in
     below_more _ _ c.loop-i.invariant
-    (told m p (g.M.Marks.has c.name-from.new.undone) c.heap-top-top.result c.trail-top.result c.loop-i.i c.seen.result c.leads-past.result
-    c.heap-top-top.ensures c.trail-top.ensures c.name-from.ensures c.seen.ensures c.leads-past.ensures
-    ∙ c.if-leads-past.false)
+    (told m p (g.M.Marks.has c.name_from.new.undone) c.heap_top-top.result c.trail_top.result c.loop-i.i c.seen.result c.leads_past.result
+    c.heap_top-top.ensures c.trail_top.ensures c.name_from.ensures c.seen.ensures c.leads_past.ensures
+    ∙ c.if-leads_past.false)
 
 pub returns : goal.returns
 returns g c =
     let m = c.args.memory.now in
     let p = choice_at (tables_of m) c.args.point in
-    sym (from_none (past m p) 0 p.heap_top (λ i a b. c.loop-i.invariant i (omega (arith, c.heap-top-top.ensures))))
+    sym (from_none (past m p) 0 p.heap_top (λ i a b. c.loop-i.invariant i (omega (arith, c.heap_top-top.ensures))))
