@@ -7,11 +7,11 @@ use tables::Memory;
 use unifying::Work;
 
 mod choices;
+mod comparing;
+mod looking;
 mod making;
-mod reading;
 mod registers;
 mod structures;
-mod terms;
 
 // Tables that keep the rules, the structure that is half made, if there is one, and spare tables that same and unify work in.
 #[derive(Drop)]

@@ -21,7 +21,8 @@ use Rattle.calls.specs.Whole.{Whole}
 use Rattle.calls.proofs.KeepSteps.{Accepted, half_none, some_stands}
 use Rattle.store.specs.declared.store.Slip.{Slip}
 use Rattle.store.specs.declared.store.Store.{Store}
-use Rattle.store.specs.Called.{state, called, or_full, refusal_for}
+use Rattle.refusing.specs.Refused.{or_full, refusal_for}
+use Rattle.store.specs.Called.{state, called}
 use Rattle.store.proofs.Accepting.{accepted, step_accepted, step_refused}
 use Rattle.store.proofs.Keeping.{whole}
 use Rattle.weld_task.specs.Slips.{Held}

@@ -7,5 +7,5 @@ use Rattle.loading.proofs.described.describe.Goals as goal
 pub returns-in-Ok : goal.returns-in-Ok
 returns-in-Ok c =
     let image = c.args.image.now in
-    c.in-use.ensures ∙ ap of_load c.in-Ok.ensures.result
+    c.in_use.ensures ∙ ap of_load c.in-Ok.ensures.result
     ∙ sym (ap (λ (b : Bool). cond b (refused_with 10 0 0) (of_load (loaded image))) (le-ltb 65536 (length image) (omega arith)))

@@ -40,5 +40,5 @@ pub returns : goal.returns
 returns c =
     let w = c.args.word.now in
     let inv = c.loop-b.invariant in
-    let plain : no_leading_zero w ≡ true = sym c.no-leading-zero.ensures ∙ c.if-not-no-leading-zero.false in
+    let plain : no_leading_zero w ≡ true = sym c.no_leading_zero.ensures ∙ c.if-not-no_leading_zero.false in
     in_bits c.loop-b.n _ inv.2 (number_all w c.loop-b.n c.loop-b.b-index inv.0 inv.1 (search rules) plain)

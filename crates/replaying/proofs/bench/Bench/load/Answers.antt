@@ -9,17 +9,17 @@ use Rattle.replaying.proofs.SlipsAgree.{agree_from}
 use Rattle.replaying.proofs.Reloading.{some_slip, loaded_free, loaded_bench}
 use Rattle.replaying.proofs.bench.Bench.load.Goals as goal
 
-pub invariant-of-self : goal.invariant-of-self
-invariant-of-self c =
+pub invariant_of-self : goal.invariant_of-self
+invariant_of-self c =
     let s = state c.in-Ok.store in
     let gone = ap slip_of (sym c.take.ensures.after) in
-    (agree_from s (slip_of c.take.new.self) (loaded_free (loaded c.args.image.now) s c.in-Ok.ensures.result ∙ gone), tt)
+    record { agrees = agree_from s (slip_of c.take.new.self) (loaded_free (loaded c.args.image.now) s c.in-Ok.ensures.result ∙ gone) }
 
 pub returns : goal.returns
 returns c =
     let b = c.args.self.now in
     let s = state c.in-Ok.store in
     let gone = ap slip_of c.take.ensures.after in
-    let told = c.give-up-given-up.ensures ∙ ap (λ (o : Option Slip). std.is_some o) c.take.ensures.value ∙ some_slip b.slip in
-    ap (λ slip. (Ok c.give-up-given-up.result, record { state = s; slip = slip })) gone
-    ∙ loaded_bench (loaded c.args.image.now) s (bench_of b.store b.slip) c.give-up-given-up.result c.in-Ok.ensures.result told
+    let told = c.give_up-given_up.ensures ∙ ap (λ (o : Option Slip). std.is_some o) c.take.ensures.value ∙ some_slip b.slip in
+    ap (λ slip. (Ok c.give_up-given_up.result, record { state = s; slip = slip })) gone
+    ∙ loaded_bench (loaded c.args.image.now) s (bench_of b.store b.slip) c.give_up-given_up.result c.in-Ok.ensures.result told

@@ -5,8 +5,8 @@ use Rattle.replaying.specs.Benches.{BenchState, bench_of}
 use Rattle.replaying.proofs.SlipsAgree.{agree_after}
 use Rattle.replaying.proofs.bench.Bench.perform.Goals as goal
 
-pub invariant-of-self : goal.invariant-of-self
-invariant-of-self c =
+pub invariant_of-self : goal.invariant_of-self
+invariant_of-self c =
     let b = c.args.self.now in
-    let left = sym (ap (λ (x : Reply × BenchState). x.1) c.carry-out.ensures) in
-    (subst (λ (x : BenchState). Agrees x.state x.slip) left (agree_after c.args.request (bench_of b.store b.slip) b.agrees), tt)
+    let left = sym (ap (λ (x : Reply × BenchState). x.1) c.carry_out.ensures) in
+    record { agrees = subst (λ (x : BenchState). Agrees x.state x.slip) left (agree_after c.args.request (bench_of b.store b.slip) b.agrees) }

@@ -13,17 +13,17 @@ use Rattle.store.proofs.store.Store.arg.Goals as goal
 pub argument-requires : goal.argument-requires
 argument-requires c = stands c.args.self.now
 
-pub set-register-requires : goal.set-register-requires
-set-register-requires c =
+pub set_register-requires : goal.set_register-requires
+set_register-requires c =
     let s = c.args.self.now in
     let t = tables_of s.memory in
     (search rules, ap in_range c.cell-word.ensures ∙ (argument_word t (stands s) c.args.s c.args.i c.in-Some-argument.place (sym c.in-Some-argument.ensures)).1)
 
-pub invariant-of-self : goal.invariant-of-self
-invariant-of-self c =
+pub invariant_of-self : goal.invariant_of-self
+invariant_of-self c =
     let s = c.args.self.now in
     let d = c.args.d in
     let there : some c.in-Some-argument.place ≡ argument (tables_of s.memory) c.args.s c.args.i = c.in-Some-argument.ensures in
     let made = ap (λ (o : Option ℕ). (set_argument (state s) d o).1) there in
-    let written : state_of c.set-register.new.self s.half ≡ (set_argument (state s) d (some c.in-Some-argument.place)).1 = search rules in
-    (whole_after (Arg d c.args.s c.args.i) s c.set-register.new.self s.half c.in-default.ensures (written ∙ made), tt)
+    let written : state_of c.set_register.new.self s.half ≡ (set_argument (state s) d (some c.in-Some-argument.place)).1 = search rules in
+    record { whole = whole_after (Arg d c.args.s c.args.i) s c.set_register.new.self s.half c.in_default.ensures (written ∙ made) }

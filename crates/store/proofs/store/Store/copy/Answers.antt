@@ -6,12 +6,12 @@ use Rattle.calls.specs.declared.Call.TheVariants.{Move}
 use Rattle.store.proofs.Keeping.{stands, whole_after}
 use Rattle.store.proofs.store.Store.copy.Goals as goal
 
-pub set-register-requires : goal.set-register-requires
-set-register-requires c =
+pub set_register-requires : goal.set_register-requires
+set_register-requires c =
     let s = c.args.self.now in
     (search rules, ap in_range c.register-word.ensures ∙ (keeps_register (tables_of s.memory) c.args.s (stands s)).1)
 
-pub invariant-of-self : goal.invariant-of-self
-invariant-of-self c =
+pub invariant_of-self : goal.invariant_of-self
+invariant_of-self c =
     let s = c.args.self.now in
-    (whole_after (Move c.args.d c.args.s) s c.set-register.new.self s.half c.in-default.ensures (search rules), tt)
+    record { whole = whole_after (Move c.args.d c.args.s) s c.set_register.new.self s.half c.in_default.ensures (search rules) }

@@ -24,42 +24,42 @@ next-next-requires c =
     let s = c.args.self.now in
     let slip = c.args.slip.draft in
     let call = Hole slip in
-    let fine = (accepted call (state s) c.in-default.ensures).0 in
-    let half : Half = record { at = c.half-of-half.result.at; missing = c.half-of-half.result.missing } in
-    let fits = half_fits (state s) slip half c.half-of-half.ensures fine.0 (whole s) in
+    let fine = (accepted call (state s) c.in_default.ensures).0 in
+    let half : Half = record { at = c.half_of-half.result.at; missing = c.half_of-half.result.missing } in
+    let fits = half_fits (state s) slip half c.half_of-half.ensures fine.0 (whole s) in
     (fits.0, fits.1)
 
-pub set-cell-requires : goal.set-cell-requires
-set-cell-requires c =
+pub set_cell-requires : goal.set_cell-requires
+set_cell-requires c =
     let s = c.args.self.now in
     let slip = c.args.slip.draft in
     let call = Hole slip in
-    let fine = (accepted call (state s) c.in-default.ensures).0 in
-    let half : Half = record { at = c.half-of-half.result.at; missing = c.half-of-half.result.missing } in
-    let inside = place_inside (state s) slip half c.half-of-half.ensures fine.0 (whole s) fine.1.0 in
-    let fits = half_fits (state s) slip half c.half-of-half.ensures fine.0 (whole s) in
+    let fine = (accepted call (state s) c.in_default.ensures).0 in
+    let half : Half = record { at = c.half_of-half.result.at; missing = c.half_of-half.result.missing } in
+    let inside = place_inside (state s) slip half c.half_of-half.ensures fine.0 (whole s) fine.1.0 in
+    let fits = half_fits (state s) slip half c.half_of-half.ensures fine.0 (whole s) in
     (omega (arith, inside, c.next-next.ensures), lt-ltb c.next-next.result 4096 (omega (arith, inside, (stands s).1.cells, c.next-next.ensures)))
 
-pub invariant-of-self : goal.invariant-of-self
-invariant-of-self c =
+pub invariant_of-self : goal.invariant_of-self
+invariant_of-self c =
     let s = c.args.self.now in
     let slip = c.args.slip.draft in
     let call = Hole slip in
-    let fine = (accepted call (state s) c.in-default.ensures).0 in
-    let half : Half = record { at = c.half-of-half.result.at; missing = c.half-of-half.result.missing } in
-    let after = c.set-cell.new.self in
-    let written = hole_made (state s) slip half c.half-of-half.ensures fine.0 (tables_of s.memory) (tables_of after) c.next-next.result c.next-next.ensures c.set-cell.ensures in
+    let fine = (accepted call (state s) c.in_default.ensures).0 in
+    let half : Half = record { at = c.half_of-half.result.at; missing = c.half_of-half.result.missing } in
+    let after = c.set_cell.new.self in
+    let written = hole_made (state s) slip half c.half_of-half.ensures fine.0 (tables_of s.memory) (tables_of after) c.next-next.result c.next-next.ensures c.set_cell.ensures in
     let fewer = ap (λ (h : made.Half). state_of after (Some h)) c.fewer.ensures in
-    (whole_after call s after (Some c.fewer.result) c.in-default.ensures (fewer ∙ ap (λ (x : Answer × State). x.1) written), tt)
+    record { whole = whole_after call s after (Some c.fewer.result) c.in_default.ensures (fewer ∙ ap (λ (x : Answer × State). x.1) written) }
 
 pub returns : goal.returns
 returns c =
     let s = c.args.self.now in
     let slip = c.args.slip.draft in
     let call = Hole slip in
-    let fine = (accepted call (state s) c.in-default.ensures).0 in
-    let half : Half = record { at = c.half-of-half.result.at; missing = c.half-of-half.result.missing } in
-    let after = c.set-cell.new.self in
-    let written = hole_made (state s) slip half c.half-of-half.ensures fine.0 (tables_of s.memory) (tables_of after) c.next-next.result c.next-next.ensures c.set-cell.ensures in
+    let fine = (accepted call (state s) c.in_default.ensures).0 in
+    let half : Half = record { at = c.half_of-half.result.at; missing = c.half_of-half.result.missing } in
+    let after = c.set_cell.new.self in
+    let written = hole_made (state s) slip half c.half_of-half.ensures fine.0 (tables_of s.memory) (tables_of after) c.next-next.result c.next-next.ensures c.set_cell.ensures in
     let fewer = ap₂ (λ (d : Draft) (h : made.Half). (Hands d, state_of after (Some h))) c.fewer-2.ensures c.fewer.ensures in
-    record { result = fewer ∙ written ∙ sym (step_accepted call (tables_of s.memory) (state s) (sym c.in-default.ensures)); kept = tt; back = tt }
+    record { result = fewer ∙ written ∙ sym (step_accepted call (tables_of s.memory) (state s) (sym c.in_default.ensures)); kept = tt; back = tt }

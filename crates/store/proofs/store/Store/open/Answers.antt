@@ -3,7 +3,7 @@ use Rattle.calls.specs.declared.Call.TheVariants.{Open}
 use Rattle.store.proofs.Keeping.{whole_after}
 use Rattle.store.proofs.store.Store.open.Goals as goal
 
-pub invariant-of-self : goal.invariant-of-self
-invariant-of-self c =
+pub invariant_of-self : goal.invariant_of-self
+invariant_of-self c =
     let s = c.args.self.now in
-    (whole_after Open s c.push-choice.new.self s.half c.in-default.ensures (search rules), tt)
+    record { whole = whole_after Open s c.push_choice.new.self s.half c.in_default.ensures (search rules) }

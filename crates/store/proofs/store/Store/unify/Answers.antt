@@ -25,13 +25,13 @@ unify-requires c =
       right = subst (Keeps t) (sym c.register-right.ensures) (keeps_register t c.args.t (stands s));
     }
 
-pub invariant-of-self : goal.invariant-of-self
-invariant-of-self c =
+pub invariant_of-self : goal.invariant_of-self
+invariant_of-self c =
     let s = c.args.self.now in
     let t = tables_of s.memory in
     let done = subst₂ (λ (a b : Cell). Unified t a b (tables_of c.unify.new.memory) c.unify.result) c.register-left.ensures c.register-right.ensures c.unify.ensures.unified in
     let acts = unify_acts t (state s) (tables_of c.unify.new.memory) c.args.s c.args.t c.unify.result done in
-    (whole_after (Unify c.args.s c.args.t) s c.unify.new.memory s.half c.in-default.ensures (ap (λ (r : Answer × State). r.1) acts), tt)
+    record { whole = whole_after (Unify c.args.s c.args.t) s c.unify.new.memory s.half c.in_default.ensures (ap (λ (r : Answer × State). r.1) acts) }
 
 pub returns : goal.returns
 returns c =
@@ -40,7 +40,7 @@ returns c =
     let u = tables_of c.unify.new.memory in
     let done = subst₂ (λ (a b : Cell). Unified t a b u c.unify.result) c.register-left.ensures c.register-right.ensures c.unify.ensures.unified in
     record {
-      result = unify_acts t (state s) u c.args.s c.args.t c.unify.result done ∙ sym (step_accepted (Unify c.args.s c.args.t) t (state s) (sym c.in-default.ensures));
+      result = unify_acts t (state s) u c.args.s c.args.t c.unify.result done ∙ sym (step_accepted (Unify c.args.s c.args.t) t (state s) (sym c.in_default.ensures));
       iso = unifies_terms t u c.args.s c.args.t c.unify.result (stands s) done;
       kept = tt;
     }

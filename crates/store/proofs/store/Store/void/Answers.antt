@@ -14,24 +14,24 @@ returns-in-Some c =
     let s = c.args.self.now in
     record { result = sym (step_refused (Void c.args.slip.draft) (tables_of s.memory) (state s) c.in-Some.why (sym c.in-Some.ensures)); kept = (refl, refl, refl); back = refl }
 
-pub invariant-of-self : goal.invariant-of-self
-invariant-of-self c =
+pub invariant_of-self : goal.invariant_of-self
+invariant_of-self c =
     let s = c.args.self.now in
     let slip = c.args.slip.draft in
     let call = Void slip in
-    let fine = (accepted call (state s) c.in-default.ensures).0 in
-    let half : Half = record { at = c.half-of-half.result.at; missing = c.half-of-half.result.missing } in
-    let after = c.cut-heap.new.self in
-    let ended = void_made (state s) slip half c.half-of-half.ensures fine.0 (tables_of s.memory) (tables_of after) c.cut-heap.ensures in
-    (whole_after call s after None c.in-default.ensures (ap (λ (x : Answer × State). x.1) ended), tt)
+    let fine = (accepted call (state s) c.in_default.ensures).0 in
+    let half : Half = record { at = c.half_of-half.result.at; missing = c.half_of-half.result.missing } in
+    let after = c.cut_heap.new.self in
+    let ended = void_made (state s) slip half c.half_of-half.ensures fine.0 (tables_of s.memory) (tables_of after) c.cut_heap.ensures in
+    record { whole = whole_after call s after None c.in_default.ensures (ap (λ (x : Answer × State). x.1) ended) }
 
 pub returns : goal.returns
 returns c =
     let s = c.args.self.now in
     let slip = c.args.slip.draft in
     let call = Void slip in
-    let fine = (accepted call (state s) c.in-default.ensures).0 in
-    let half : Half = record { at = c.half-of-half.result.at; missing = c.half-of-half.result.missing } in
-    let after = c.cut-heap.new.self in
-    let ended = void_made (state s) slip half c.half-of-half.ensures fine.0 (tables_of s.memory) (tables_of after) c.cut-heap.ensures in
-    record { result = ended ∙ sym (step_accepted call (tables_of s.memory) (state s) (sym c.in-default.ensures)); kept = tt; back = tt }
+    let fine = (accepted call (state s) c.in_default.ensures).0 in
+    let half : Half = record { at = c.half_of-half.result.at; missing = c.half_of-half.result.missing } in
+    let after = c.cut_heap.new.self in
+    let ended = void_made (state s) slip half c.half_of-half.ensures fine.0 (tables_of s.memory) (tables_of after) c.cut_heap.ensures in
+    record { result = ended ∙ sym (step_accepted call (tables_of s.memory) (state s) (sym c.in_default.ensures)); kept = tt; back = tt }

@@ -4,10 +4,10 @@ use Rattle.tables.specs.Tables.{used}
 use Rattle.tables.specs.Views.{tables_of}
 use Rattle.heaps.specs.LevelLaws.{Keeps}
 use Rattle.heaps.proofs.KeptWords.{cell_ranged}
-use Rattle.store.proofs.store.reading.seen_at.Goals as goal
+use Rattle.store.proofs.store.looking.seen_at.Goals as goal
 
-pub functor-value-requires : goal.functor-value-requires
-functor-value-requires c =
+pub functor_value-requires : goal.functor_value-requires
+functor_value-requires c =
     let t = tables_of c.args.memory.now in
     let n = c.in-Pointer.n in
     let inside : n < used t = (subst (Keeps t) c.in-Pointer.is c.requires.keeps).0.0 in
