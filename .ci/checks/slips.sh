@@ -1,28 +1,28 @@
 #!/usr/bin/env bash
 # Two misuses of a slip that the front end must refuse: forgetting one, and writing to a finished structure.
-# A small client of the store is read in a temporary folder: first without a misuse, then with each.
-# Only the front end reads it, with every library as source, so nothing is proved here.
+# A small client of the store is tried in a temporary folder, beside copies of the crates that it stands on: first without a
+# misuse, then with each. `rt try` runs it before any proof, so nothing is proved here.
 set -eu
 here=$(cd "$(dirname "$0")/../.." && pwd)
 room=$(mktemp -d)
 trap 'rm -rf "$room"' EXIT
-kit=$(dirname "$(dirname "$(rt doc)")")
-libraries=()
-while IFS=: read -r name used; do
-  libraries+=(--lib "$name:$(echo $used | tr ' ' ,)=$kit/$name/src/lib.rt")
-done <"$kit/libs.txt"
-for name in store $(sed -n 's/^store: //p' "$here/crates.txt"); do
-  libraries+=(--lib "$name=$here/crates/$name/src/lib.rt")
+used="store $(sed -n 's/^store: //p' "$here/crates.txt")"
+mkdir -p "$room/crates/client/src" "$room/crates/client/specs"
+for name in $used; do
+  (cd "$here/crates" && tar -cf - --exclude=out "$name") | (cd "$room/crates" && tar -xf -)
+  grep "^$name:" "$here/crates.txt" >>"$room/crates.txt"
 done
-mkdir "$room/src"
-cd "$room"
+echo "client: $used" >>"$room/crates.txt"
+touch "$room/crates/client/specs/Lib.antt"
+cd "$room/crates/client"
 
-# Reads the client with the given last lines of `finish`, and leaves what is said of it in the file `said`.
-read_client() {
+# Tries the client with the given last lines of `finish`, and leaves what is said of it in the file `said`.
+try_client() {
   cat >src/main.rt <<CLIENT
+#![tactic(auto)]
+
 use cells::Refusal;
-use store::Slip;
-use store::Store;
+use store::{Slip, Store};
 
 // Writes a variable as the last argument and points X0 at the structure.
 pub fn finish(store: &mut Store, slip: Slip) -> Result<(), (Refusal, Slip)> {
@@ -32,24 +32,24 @@ pub fn finish(store: &mut Store, slip: Slip) -> Result<(), (Refusal, Slip)> {
 
 fn main() {}
 CLIENT
-  "$kit/bin/rattle-print-mir" src/main.rt --crate-name client "${libraries[@]}" >said 2>&1
+  rt try >"$room/said" 2>&1
 }
 
 # Expects that the front end refuses the client for the given reason.
 refused() {
   status=0
-  read_client "$3" || status=$?
-  if [ "$status" -ne 1 ] || ! grep -q "error\[$2\]" said; then
+  try_client "$3" || status=$?
+  if [ "$status" -eq 0 ] || ! grep -q "error\[$2\]" "$room/said"; then
     echo "slips: $1: not refused with $2 (exit $status)" >&2
-    cat said >&2
+    cat "$room/said" >&2
     exit 1
   fi
   echo "slips: $1: refused, as it must be"
 }
 
-if ! read_client 'store.done(slip, 0)'; then
+if ! try_client 'store.done(slip, 0)'; then
   echo 'slips: the client without a misuse is refused' >&2
-  cat said >&2
+  cat "$room/said" >&2
   exit 1
 fi
 refused 'a forgotten slip' linear-value-let-go 'Ok(())'

@@ -1,10 +1,10 @@
 -- Giving up bindings, the last one first, gives back the tables as they were before.
-use Rattle.std.proofs.Common.{◌≡◌, ℕ, zero, suc, ◌+◌, ◌-◌, ◌<◌, ◌≤◌, Bool, true, false, cond, List, [], ◌∷◌, ◌++◌, reverse, length, get_or, take, set, sym, refl, ap, ◌∙◌, subst, ap₂, arith}
+use Rattle.std.proofs.Common.{◌≡◌, ℕ, zero, suc, ◌+◌, ◌-◌, ◌<◌, ◌≤◌, Bool, true, false, cond, List, [], ◌∷◌, ◌++◌, reverse, length, get_or, take, set, sym, refl, ap, ◌∙◌, ap₂, arith}
 use mathlib.Core.List.{reverse-append}
 use Rattle.std.proofs.lemmas.List.{take_more, take_all, set-set, set-get_or}
 use Rattle.cells.specs.declared.cell.Cell.{Cell}
 use Rattle.cells.specs.declared.cell.Cell.TheVariants.{Reference}
-use Rattle.tables.specs.Tables.{Tables, used, with_heap, with_trail}
+use Rattle.tables.specs.Tables.{Tables, with_trail}
 use Rattle.heaps.specs.Leads.{heap_of, unbound}
 use Rattle.heaps.specs.Levels.{unbind_all}
 use Rattle.heaps.specs.Binding.{trailed, bind}

@@ -1,11 +1,10 @@
 -- A cell in range comes back from its word, and a word comes back from the cell that it holds.
-use Rattle.std.proofs.Common.{◌≡◌, ℕ, zero, suc, ◌+◌, ◌-◌, ◌*◌, ◌/◌, ◌%◌, ◌^◌, ◌<◌, ◌≤◌, Bool, true, false, cond, ◌&&◌, ltb, leb, ◌⊎◌, ℤ, pos, negsuc, Ok, Err, Result, sym, refl, ap, ◌∙◌, ap₂, inl, inr, arith}
+use Rattle.std.proofs.Common.{◌≡◌, ℕ, zero, suc, ◌+◌, ◌-◌, ◌*◌, ◌/◌, ◌%◌, ◌^◌, ◌<◌, ◌≤◌, Bool, true, false, cond, ◌&&◌, ltb, leb, pos, negsuc, Ok, Err, sym, refl, ap, ◌∙◌, ap₂, arith}
 use Rattle.std.proofs.lemmas.Bool.{lt-ltb, le-ltb, ltb-true, ltb-false, leb-true, le-leb, and_parts}
 use Rattle.cells.specs.declared.cell.Cell.{Cell}
 use Rattle.cells.specs.declared.cell.Cell.TheVariants.{Reference, Pointer, Functor, Atom, Integer}
-use Rattle.cells.specs.declared.refusal.Refusal.{Refusal}
 use Rattle.cells.specs.declared.refusal.Refusal.TheVariants.{OutOfRange}
-use Rattle.cells.specs.Cells.{bits29, signed29, word_of, cell_of, cell_of_kind, in_range, encoded, decoded}
+use Rattle.cells.specs.Cells.{bits29, signed29, word_of, cell_of, cell_of_kind, in_range, decoded}
 use Rattle.cells.specs.Laws.{DecodeEncoded, EncodeDecoded}
 
 cell_of_parts : (k v w : ℕ) → w % 8 ≡ k → w / 8 ≡ v → cell_of w ≡ cell_of_kind k v

@@ -1,11 +1,9 @@
 -- What the tables of classes hold, after writes to links and ranks.
-use Rattle.std.proofs.Common.{◌≡◌, ℕ, zero, suc, ◌+◌, ◌-◌, ◌<◌, ◌≤◌, Bool, true, false, ◌||◌, eqb, ◌⊎◌, List, [], ◌∷◌, length, set, replicate, sym, refl, ap, ◌∙◌, inl, inr, ⊎_elim, arith}
+use Rattle.std.proofs.Common.{◌≡◌, ℕ, zero, suc, ◌+◌, ◌<◌, ◌≤◌, false, ◌||◌, eqb, ◌⊎◌, List, [], ◌∷◌, length, set, replicate, refl, ap, ◌∙◌, ⊎_elim, arith}
 use Rattle.std.proofs.lemmas.List.{get_or-set_same, get_or-set_other}
 use Rattle.std.proofs.lemmas.Bool.{ne_eqb, cases_eq, or_from}
-use Rattle.tables.specs.Stacks.{listed}
-use Rattle.tables.proofs.Views.{length_turned}
 use Rattle.classes.specs.Merges.{Merge, same_class}
-use Rattle.classes.specs.Links.{merge_of, at, named, Untouched, Linked, OnWay}
+use Rattle.classes.specs.Links.{at, named, Untouched, Linked, OnWay}
 use Rattle.classes.specs.Classes.{merges}
 use Rattle.classes.specs.declared.classes.Classes.{Classes}
 use Rattle.classes.proofs.LinkLaws.{linked_of, linked_more, few}

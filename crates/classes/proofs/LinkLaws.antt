@@ -1,13 +1,13 @@
 -- Links keep the merges: none at first, one more after two classes are joined; equal roots tell that two cells are of one class.
-use Rattle.std.proofs.Common.{◌≡◌, ℕ, zero, suc, ◌+◌, ◌-◌, ◌<◌, ◌≤◌, Bool, true, false, cond, ◌||◌, eqb, ◌⊎◌, List, [], ◌∷◌, length, sym, refl, ap, ◌∙◌, subst, ap₂, inl, inr, ⊎_elim, arith}
+use Rattle.std.proofs.Common.{◌≡◌, ℕ, suc, ◌-◌, ◌<◌, ◌≤◌, Bool, true, false, cond, ◌||◌, eqb, ◌⊎◌, List, [], ◌∷◌, length, sym, refl, ap, ◌∙◌, subst, ⊎_elim, arith}
 use mathlib.Core.Bool.{Bool-set}
 use mathlib.Core.Logic.{∥∥₁_elim}
 use mathlib.Core.HLevel.{Π_prop, ×_prop, Unit-prop}
 use native.Mathlib.Nat.{ℕ_set}
 use native.Mathlib.Bridge.{le_prop}
-use Rattle.std.proofs.lemmas.Bool.{both_ways, eqb-true, eqb-false, eq-eqb, ne_eqb, cases_eq, cases_Bool, or_left, or_right, or_parts}
+use Rattle.std.proofs.lemmas.Bool.{both_ways, eqb-true, eqb-false, eq-eqb, ne_eqb, cases_eq, or_left, or_right, or_parts}
 use Rattle.classes.specs.Merges.{Merge, rep, same_class, Joined}
-use Rattle.classes.specs.Links.{named, Untouched, Linked, Linked-prop, OnWay}
+use Rattle.classes.specs.Links.{named, Linked, Linked-prop, OnWay}
 use Rattle.classes.proofs.MergeCount.{merges_fewer}
 
 joined_prop : (n : ℕ) (merges : List Merge) → IsProp (Joined n merges)

@@ -1,8 +1,7 @@
 -- The order of copying: runs are brought whole, so they stand together; and the scan goes on until nothing is missing, so exactly
 -- the reached cells are brought. So copying shows what a collector must.
-use Rattle.std.proofs.Common.{◌≡◌, ℕ, zero, suc, ◌+◌, ◌-◌, ◌<◌, ◌≤◌, Bool, true, false, cond, ◌||◌, eqb, ◌⊎◌, List, [], ◌∷◌, ◌++◌, length, sym, refl, ap, ◌∙◌, subst, inl, inr, ⊎_elim, append_assoc, append-nil, arith, length-append}
-use mathlib.Core.Option.{Option, some, none}
-use Rattle.std.proofs.lemmas.Bool.{both_ways, cases_lt, eqb-true, eqb-false, eq-eqb, ne_eqb, or_left, or_right, or_from, or_cases}
+use Rattle.std.proofs.Common.{◌≡◌, ℕ, zero, suc, ◌+◌, ◌-◌, ◌<◌, ◌≤◌, Bool, true, false, cond, ◌||◌, eqb, ◌⊎◌, List, [], ◌∷◌, ◌++◌, length, sym, refl, ap, ◌∙◌, subst, inl, inr, ⊎_elim, append_assoc, append-nil, arith}
+use Rattle.std.proofs.lemmas.Bool.{both_ways, cases_lt, eqb-true, eqb-false, eq-eqb, or_left, or_right, or_from, or_cases}
 use Rattle.tables.specs.Tables.{Tables, used}
 use Rattle.heaps.specs.Lists.{is_in, Different}
 use Rattle.heaps.specs.Reached.{is_reached}
@@ -10,7 +9,6 @@ use Rattle.heaps.specs.LevelLaws.{Stands}
 use Rattle.heaps.proofs.SeenLaws.{in_joined}
 use Rattle.collectors.specs.Placing.{numbers, place_in}
 use Rattle.collectors.specs.Copying.{run_start, run_length, run, bring}
-use Rattle.collectors.proofs.PlaceLaws.{place_inside}
 use Rattle.collectors.proofs.SlideOrder.{in_numbers, different_numbers}
 use Rattle.collectors.proofs.Runs.{Run, run_of}
 

@@ -1,10 +1,10 @@
 -- The scan of copying goes on until nothing is missing: exactly the reached cells are brought. So copying shows what a collector must.
-use Rattle.std.proofs.Common.{◌≡◌, ℕ, zero, suc, ◌+◌, ◌-◌, ◌<◌, ◌≤◌, Bool, true, false, cond, ◌||◌, eqb, ◌⊎◌, List, [], ◌∷◌, ◌++◌, length, sym, refl, ap, ◌∙◌, subst, inl, inr, ⊎_elim, arith}
+use Rattle.std.proofs.Common.{◌≡◌, ℕ, zero, suc, ◌+◌, ◌<◌, ◌≤◌, Bool, true, false, cond, eqb, List, [], ◌∷◌, ◌++◌, length, sym, refl, ap, ◌∙◌, subst, ⊎_elim, arith}
 use mathlib.Core.Option.{Option, some, none}
 use Rattle.std.proofs.lemmas.Bool.{both_ways, cases_lt, cases_eq, eqb-true, eq-eqb, or_left, or_right, or_cases}
 use Rattle.cells.specs.declared.cell.Cell.{Cell}
-use Rattle.tables.specs.Tables.{Choice, Tables, used, cell_at}
-use Rattle.heaps.specs.Lists.{Each, Among, here, further, is_in}
+use Rattle.tables.specs.Tables.{Tables, used, cell_at}
+use Rattle.heaps.specs.Lists.{Among, here, further, is_in}
 use Rattle.heaps.specs.Leads.{heap_of, first, many, LeadsBy}
 use Rattle.heaps.specs.Spelling.{arity_of}
 use Rattle.heaps.specs.Levels.{seen_from}

@@ -1,15 +1,15 @@
 -- Where no level loses a binding that it sees, taking trail entries off is a layer: the heaps agree on all that a level reaches.
-use Rattle.std.proofs.Common.{◌≡◌, ℕ, zero, suc, ◌+◌, ◌<◌, ◌≤◌, Bool, true, false, cond, not, ◌&&◌, eqb, ◌⊎◌, List, [], ◌∷◌, ◌++◌, map, length, take, drop, sym, refl, ap, ◌∙◌, subst, ap₂, subst₂, inl, inr, ⊎_elim, arith}
+use Rattle.std.proofs.Common.{◌≡◌, ℕ, zero, suc, ◌<◌, ◌≤◌, Bool, true, false, cond, not, ◌&&◌, eqb, ◌⊎◌, List, [], ◌∷◌, map, length, take, drop, sym, refl, ap, ◌∙◌, subst, ap₂, subst₂, inl, inr, ⊎_elim, arith}
 use Rattle.std.proofs.lemmas.List.{length-map, drop-map}
 use Rattle.std.proofs.lemmas.Bool.{both_ways, cases_lt, and_parts, or_left, or_right, or_cases}
 use Rattle.cells.specs.declared.cell.Cell.{Cell}
 use Rattle.cells.specs.declared.cell.Cell.TheVariants.{Reference}
 use Rattle.tables.specs.Tables.{Choice, Tables, used}
-use Rattle.terms.specs.Terms.{Term, cons, row}
+use Rattle.terms.specs.Terms.{cons, row}
 use Rattle.terms.specs.Renamings.{Alike}
 use Rattle.terms.proofs.AlikeLaws.{alike_refl}
-use Rattle.heaps.specs.Lists.{Each, Among, here, further, is_in}
-use Rattle.heaps.specs.Leads.{Heap, heap_of, LeadsBy}
+use Rattle.heaps.specs.Lists.{Among, here, further, is_in}
+use Rattle.heaps.specs.Leads.{heap_of}
 use Rattle.heaps.specs.Spelling.{spell, spelled}
 use Rattle.heaps.specs.Levels.{seen_from, back_to, undo}
 use Rattle.heaps.specs.Reached.{Reaches}
@@ -17,7 +17,7 @@ use Rattle.heaps.specs.ReachedLaws.{SomeUnbound}
 use Rattle.heaps.specs.Rules.{Rules}
 use Rattle.heaps.specs.LevelLaws.{Stands}
 use Rattle.heaps.proofs.MemberLaws.{each_among}
-use Rattle.heaps.proofs.SeenLaws.{unbind_at, length_unbind}
+use Rattle.heaps.proofs.SeenLaws.{unbind_at}
 use Rattle.heaps.proofs.UnbindLaws.{heap_of_take, heap_of_past}
 use Rattle.heaps.proofs.FrameLaws.{spell_frame}
 use Rattle.heaps.proofs.CutLaws.{length_back}

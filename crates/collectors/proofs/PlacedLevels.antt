@@ -1,18 +1,18 @@
 -- Placing the reached cells in an order shows what a collector must: at each level the registers spell the same terms, with
 -- variables renamed as their cells were placed.
-use Rattle.std.proofs.Common.{◌≡◌, ℕ, zero, suc, ◌+◌, ◌<◌, ◌≤◌, Bool, true, false, List, [], ◌∷◌, map, length, take, drop, sym, refl, ap, ◌∙◌, subst, ap₂, subst₂, arith}
+use Rattle.std.proofs.Common.{◌≡◌, ℕ, zero, suc, ◌+◌, ◌<◌, ◌≤◌, Bool, true, List, [], ◌∷◌, map, length, drop, sym, refl, ap, ◌∙◌, subst, ap₂, subst₂, arith}
 use Rattle.std.proofs.lemmas.List.{length-map, drop-map}
 use Rattle.cells.specs.declared.cell.Cell.{Cell}
 use Rattle.cells.specs.declared.cell.Cell.TheVariants.{Reference, Pointer, Functor, Atom, Integer}
 use Rattle.tables.specs.Tables.{Choice, Tables, used, with_choices}
-use Rattle.terms.specs.Terms.{Terms, cons, row}
+use Rattle.terms.specs.Terms.{cons, row}
 use Rattle.terms.specs.Renamings.{rename, Alike}
 use Rattle.terms.proofs.AlikeLaws.{rename_rename}
 use Rattle.heaps.specs.Lists.{Among, here, further}
-use Rattle.heaps.specs.Leads.{Heap, heap_of, LeadsBy, relocate}
+use Rattle.heaps.specs.Leads.{heap_of, LeadsBy, relocate}
 use Rattle.heaps.specs.Spelling.{arity_of, spell, spelled}
 use Rattle.heaps.specs.Levels.{seen_from, back_to, last_of, undo}
-use Rattle.heaps.specs.Reached.{Reached, is_reached, reached_count, saved_words, direct, onward}
+use Rattle.heaps.specs.Reached.{Reached, is_reached, saved_words, direct, onward}
 use Rattle.heaps.specs.Rules.{TopsFall, Rules}
 use Rattle.heaps.specs.LevelLaws.{Stands}
 use Rattle.heaps.specs.Moving.{Moves}
@@ -25,7 +25,6 @@ use Rattle.heaps.proofs.MoveLaws.{spell_moved}
 use Rattle.heaps.proofs.ReachedUsed.{reached_used}
 use Rattle.heaps.proofs.ReachedDecided.{reached_decided}
 use Rattle.heaps.proofs.UndoReached.{undo_reached}
-use Rattle.collectors.specs.Collectors.{Shows}
 use Rattle.collectors.specs.Placing.{place_in, placed_choice, placed}
 use Rattle.collectors.specs.Orders.{Orders, PlacedShows}
 use Rattle.collectors.proofs.PlaceLaws.{place_holds}

@@ -1,8 +1,7 @@
 -- Placing the reached cells moves them one-to-one onto the new heap, as each choice point sees the heaps too.
-use Rattle.std.proofs.Common.{◌≡◌, ℕ, ◌+◌, ◌<◌, ◌≤◌, Bool, true, false, cond, ◌&&◌, List, [], ◌∷◌, map, length, get_or, take, drop, sym, refl, ap, ◌∙◌, subst, arith}
+use Rattle.std.proofs.Common.{◌≡◌, ℕ, ◌<◌, Bool, true, false, cond, ◌&&◌, List, map, length, get_or, take, drop, sym, refl, ap, ◌∙◌, arith}
 use Rattle.std.proofs.lemmas.List.{get_or-map, length-map, drop-map}
 use Rattle.std.proofs.lemmas.Bool.{and_parts}
-use Rattle.cells.specs.declared.cell.Cell.{Cell}
 use Rattle.cells.specs.declared.cell.Cell.TheVariants.{Reference}
 use Rattle.tables.specs.Tables.{Choice, Tables, used, cell_at}
 use Rattle.heaps.specs.Lists.{is_in}

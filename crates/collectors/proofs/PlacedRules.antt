@@ -1,12 +1,12 @@
 -- Placing the reached cells in an order leaves tables that keep the rules and fit the memory.
-use Rattle.std.proofs.Common.{◌≡◌, ℕ, suc, ◌+◌, ◌-◌, ◌<◌, ◌≤◌, Bool, true, false, cond, ◌&&◌, eqb, ltb, List, [], ◌∷◌, ◌++◌, map, length, get_or, take, drop, sym, refl, ap, ◌∙◌, subst, ⊎_elim, arith}
-use Rattle.std.proofs.lemmas.List.{length-map, take-map, take_all}
+use Rattle.std.proofs.Common.{◌≡◌, ℕ, ◌+◌, ◌-◌, ◌<◌, ◌≤◌, Bool, true, false, cond, eqb, List, [], ◌∷◌, map, length, take, drop, sym, refl, ap, ◌∙◌, subst, ⊎_elim, arith}
+use Rattle.std.proofs.lemmas.List.{length-map, take-map}
 use Rattle.std.proofs.lemmas.Bool.{both_ways, cases_lt, eq-eqb, lt-ltb, and_parts, or_left, or_right}
 use Rattle.cells.specs.declared.cell.Cell.{Cell}
 use Rattle.cells.specs.declared.cell.Cell.TheVariants.{Reference, Pointer, Functor, Atom, Integer}
 use Rattle.cells.specs.Cells.{in_range}
 use Rattle.tables.specs.Tables.{Choice, Tables, used, cell_at}
-use Rattle.heaps.specs.Lists.{Each, Among, here, further, is_in, Different}
+use Rattle.heaps.specs.Lists.{Each, Among, here, further, is_in}
 use Rattle.heaps.specs.Leads.{heap_of, LeadsBy, is_functor, refers_to, unbound, relocate, Acyclic}
 use Rattle.heaps.specs.Spelling.{arity_of}
 use Rattle.heaps.specs.Levels.{seen_from}
@@ -19,15 +19,14 @@ use Rattle.heaps.proofs.UnbindLaws.{heap_of_past}
 use Rattle.heaps.proofs.SeenLaws.{unbind_at}
 use Rattle.heaps.proofs.CountLaws.{count_at_most}
 use Rattle.heaps.proofs.KeptWords.{cell_ranged}
-use Rattle.heaps.proofs.WordKinds.{argument_leads}
 use Rattle.heaps.proofs.Sound.{Sound, rules_sound}
 use Rattle.heaps.proofs.MoveLaws.{unbound_moved, acyclic_moved}
 use Rattle.heaps.proofs.MovedSound.{moved_sound, keeps_moved}
 use Rattle.heaps.proofs.ReachedDecided.{reached_decided}
 use Rattle.collectors.specs.Placing.{kept, place_in, placed_choice, placed}
 use Rattle.collectors.specs.Orders.{Orders}
-use Rattle.collectors.proofs.PlaceLaws.{place_inside, in_kept, different_kept, each_kept, length_kept, kept_take, kept_part, take_kept, each_map_of, different_map}
-use Rattle.collectors.proofs.PlacedMoves.{f, u, R, in_order, reached_inside, used_placed, apart, reached_on, arrives, moves, source, source_reached, source_placed, onto, seen_placed}
+use Rattle.collectors.proofs.PlaceLaws.{in_kept, different_kept, each_kept, length_kept, kept_take, kept_part, take_kept, each_map_of, different_map}
+use Rattle.collectors.proofs.PlacedMoves.{R, reached_inside, used_placed, apart, reached_on, arrives, moves, source, source_reached, source_placed, onto, seen_placed}
 use Rattle.collectors.proofs.PlacedCount.{count_order}
 
 pub each_all : {A : Type 0} (P : A → Type 0) (xs : List A) → ((x : A) → Among x xs → P x) → Each P xs

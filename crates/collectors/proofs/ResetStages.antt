@@ -1,6 +1,6 @@
 -- Early reset takes entries off stretch by stretch, from the newest to the oldest. An entry goes only where nothing newer reaches its
 -- cell, so no level loses a binding that it sees.
-use Rattle.std.proofs.Common.{◌≡◌, ℕ, zero, suc, ◌+◌, ◌-◌, ◌<◌, ◌≤◌, Bool, true, false, cond, not, ◌&&◌, ◌||◌, eqb, ◌⊎◌, List, [], ◌∷◌, ◌++◌, map, length, take, drop, sym, refl, ap, ◌∙◌, subst, ap₂, inl, inr, ⊎_elim, arith}
+use Rattle.std.proofs.Common.{◌≡◌, ℕ, zero, suc, ◌-◌, ◌≤◌, Bool, true, false, cond, not, ◌&&◌, ◌||◌, eqb, ◌⊎◌, List, [], ◌∷◌, ◌++◌, map, length, take, drop, sym, refl, ap, ◌∙◌, subst, ap₂, inl, inr, ⊎_elim, arith}
 use Rattle.std.proofs.lemmas.List.{take_all}
 use Rattle.std.proofs.lemmas.Bool.{both_ways, eqb-true, eq-eqb, and_parts, and_from, or_left, or_right, or_cases}
 use Rattle.cells.specs.declared.cell.Cell.{Cell}
@@ -10,10 +10,10 @@ use Rattle.heaps.specs.Lists.{Each, Among, here, further, is_in, Different}
 use Rattle.heaps.specs.Leads.{Heap, heap_of, LeadsBy}
 use Rattle.heaps.specs.Levels.{unbind_all, seen_from}
 use Rattle.heaps.specs.Reached.{Reaches, direct, onward}
-use Rattle.heaps.specs.Rules.{WordKeeps, TopsFall, Rules}
+use Rattle.heaps.specs.Rules.{WordKeeps, TopsFall}
 use Rattle.heaps.specs.LevelLaws.{Stands}
 use Rattle.heaps.proofs.EachLaws.{each_map, each_append}
-use Rattle.heaps.proofs.MemberLaws.{each_among, among_left, among_right}
+use Rattle.heaps.proofs.MemberLaws.{among_left, among_right}
 use Rattle.heaps.proofs.SeenLaws.{unbind_at, length_unbind, in_joined}
 use Rattle.heaps.proofs.ReachesLaws.{reaches_in}
 use Rattle.heaps.proofs.ReachedDecided.{words_decided}

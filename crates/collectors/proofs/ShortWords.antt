@@ -1,14 +1,14 @@
 -- A shortened word: it may stand where the word may, it leads to where the word's chain leads, and it is no reference to a cell
 -- whose own chain it shortens.
-use Rattle.std.proofs.Common.{◌≡◌, ℕ, zero, suc, ◌+◌, ◌<◌, ◌≤◌, Bool, true, false, cond, ◌||◌, eqb, ◌⊎◌, List, sym, refl, ap, ◌∙◌, subst, inl, inr, ⊎_elim, arith}
-use Rattle.std.proofs.lemmas.Bool.{both_ways, eqb-true, eqb-false, eq-eqb, or_parts, or_cases}
+use Rattle.std.proofs.Common.{◌≡◌, ℕ, zero, suc, ◌<◌, Bool, true, false, cond, ◌||◌, ◌⊎◌, sym, refl, ap, ◌∙◌, subst, inl, inr, ⊎_elim, arith}
+use Rattle.std.proofs.lemmas.Bool.{both_ways, eqb-true, eq-eqb}
 use Rattle.cells.specs.declared.cell.Cell.{Cell}
 use Rattle.cells.specs.declared.cell.Cell.TheVariants.{Reference, Pointer, Functor, Atom, Integer}
 use Rattle.cells.specs.Cells.{in_range}
-use Rattle.tables.specs.Tables.{Tables, used, cell_at}
-use Rattle.terms.specs.Terms.{Label, named}
+use Rattle.tables.specs.Tables.{Tables, used}
+use Rattle.terms.specs.Terms.{named}
 use Rattle.heaps.specs.Lists.{is_in}
-use Rattle.heaps.specs.Leads.{Heap, heap_of, LeadsBy, Leads, Way, step, more, Acyclic, unbound, refers_to, is_functor}
+use Rattle.heaps.specs.Leads.{Heap, heap_of, LeadsBy, Leads, Way, step, more, unbound, refers_to, is_functor}
 use Rattle.heaps.specs.Spelling.{label_of, arity_of}
 use Rattle.heaps.specs.Rules.{WordKeeps}
 use Rattle.heaps.specs.LevelLaws.{Stands}

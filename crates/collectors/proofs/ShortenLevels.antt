@@ -1,6 +1,6 @@
 -- Shortening changes nothing of what is spelled at any level: a bound cell that is not on the trail is bound at every level that
 -- has it, so the old spelling reads the new heap.
-use Rattle.std.proofs.Common.{◌≡◌, ℕ, zero, suc, ◌+◌, ◌<◌, ◌≤◌, Bool, true, false, cond, ◌⊎◌, List, [], ◌∷◌, map, length, take, drop, sym, refl, ap, ◌∙◌, subst, ap₂, subst₂, inl, inr, ⊎_elim, arith}
+use Rattle.std.proofs.Common.{◌≡◌, ℕ, zero, suc, ◌<◌, ◌≤◌, Bool, true, false, cond, ◌⊎◌, List, [], ◌∷◌, map, length, drop, sym, refl, ap, ◌∙◌, subst, ap₂, subst₂, inl, inr, ⊎_elim, arith}
 use Rattle.std.proofs.lemmas.List.{length-map, drop-map}
 use Rattle.std.proofs.lemmas.Bool.{cases_lt}
 use Rattle.cells.specs.declared.cell.Cell.{Cell}
@@ -17,16 +17,15 @@ use Rattle.heaps.specs.Rules.{WordKeeps, Closed, Rules}
 use Rattle.heaps.specs.LevelLaws.{Stands}
 use Rattle.heaps.specs.SpellingLaws.{Reads}
 use Rattle.heaps.proofs.MemberLaws.{each_among}
-use Rattle.heaps.proofs.SeenLaws.{unbind_at, length_unbind}
+use Rattle.heaps.proofs.SeenLaws.{unbind_at}
 use Rattle.heaps.proofs.UnbindLaws.{heap_of_take, heap_of_past}
 use Rattle.heaps.proofs.SpellLaws.{spell_layer, spell_only}
 use Rattle.heaps.proofs.Sound.{rules_sound, cell_keeps}
 use Rattle.heaps.proofs.CutLaws.{length_back}
 use Rattle.heaps.proofs.UndoRules.{stands_undo}
 use Rattle.heaps.proofs.ReachedUsed.{rules_inside}
-use Rattle.collectors.specs.Collectors.{Shows}
 use Rattle.collectors.specs.Shortening.{short, short_choice, shorten}
-use Rattle.collectors.specs.LayerLaws.{Layered, LayeredShows, ShortenLayered}
+use Rattle.collectors.specs.LayerLaws.{LayeredShows, ShortenLayered}
 use Rattle.collectors.proofs.PlacedLevels.{level_at, undo_level}
 use Rattle.collectors.proofs.ShortWords.{leads_anywhere, target_keeps, short_passes, short_self, short_kind}
 use Rattle.collectors.proofs.ShortenRules.{used_short, cell_short, beyond_short, low, seen_as, functor_stays, rules_shorten, fits_shorten}

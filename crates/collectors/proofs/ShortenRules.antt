@@ -1,13 +1,13 @@
 -- Shortening keeps the rules, and the tables fit the memory.
-use Rattle.std.proofs.Common.{◌≡◌, ℕ, zero, suc, ◌+◌, ◌<◌, ◌≤◌, Bool, true, false, cond, eqb, ◌⊎◌, List, [], ◌∷◌, map, length, get_or, drop, sym, refl, ap, ◌∙◌, subst, inl, inr, ⊎_elim, arith}
+use Rattle.std.proofs.Common.{◌≡◌, ℕ, zero, suc, ◌<◌, ◌≤◌, Bool, true, false, cond, eqb, List, [], ◌∷◌, map, length, get_or, drop, sym, refl, ap, ◌∙◌, subst, ⊎_elim, arith}
 use Rattle.std.proofs.lemmas.List.{get_or-map, length-map}
 use Rattle.std.proofs.lemmas.Bool.{both_ways, cases_lt, eq-eqb, or_parts}
 use Rattle.cells.specs.declared.cell.Cell.{Cell}
 use Rattle.cells.specs.declared.cell.Cell.TheVariants.{Reference, Pointer, Functor, Atom, Integer}
 use Rattle.cells.specs.Cells.{in_range}
-use Rattle.tables.specs.Tables.{Choice, Tables, used, cell_at}
-use Rattle.heaps.specs.Lists.{Each, Among, here, further, is_in}
-use Rattle.heaps.specs.Leads.{Heap, heap_of, LeadsBy, Leads, Way, step, more, Acyclic, unbound, refers_to, is_functor}
+use Rattle.tables.specs.Tables.{Choice, Tables, used}
+use Rattle.heaps.specs.Lists.{Each, Among, is_in}
+use Rattle.heaps.specs.Leads.{Heap, heap_of, LeadsBy, Leads, Way, step, more, unbound, refers_to, is_functor}
 use Rattle.heaps.specs.Levels.{seen_from}
 use Rattle.heaps.specs.Rules.{WordKeeps, EntryNames, TopsFall, Closed, Rules, Fits}
 use Rattle.heaps.specs.LevelLaws.{Stands}
@@ -20,7 +20,7 @@ use Rattle.heaps.proofs.KeptWords.{cell_ranged}
 use Rattle.collectors.specs.Shortening.{short, short_choice, shorten}
 use Rattle.collectors.proofs.PlaceLaws.{each_map_of}
 use Rattle.collectors.proofs.PlacedRules.{each_all, tops_inside}
-use Rattle.collectors.proofs.ShortWords.{word_label, leads_anywhere, target_keeps, short_passes, short_keeps, short_ranged, short_leads, short_self, short_functor, short_kind}
+use Rattle.collectors.proofs.ShortWords.{leads_anywhere, target_keeps, short_passes, short_keeps, short_ranged, short_leads, short_self, short_functor, short_kind}
 
 pub each_index : {A : Type 0} (P : A → Type 0) (d : A) (xs : List A) → ((i : ℕ) → i < length xs → P (get_or xs i d)) → Each P xs
 each_index P d [] f = tt

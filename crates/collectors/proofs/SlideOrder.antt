@@ -1,11 +1,11 @@
 -- Sliding keeps the order of cells: a kept cell is placed at the number of kept cells before it. So it shows what a collector must.
-use Rattle.std.proofs.Common.{◌≡◌, ℕ, zero, suc, ◌+◌, ◌-◌, ◌<◌, ◌≤◌, Bool, true, false, cond, ◌&&◌, eqb, List, [], ◌∷◌, length, drop, sym, refl, ap, ◌∙◌, subst, ⊎_elim, arith}
-use Rattle.std.proofs.lemmas.Bool.{both_ways, cases_lt, eqb-true, eqb-false, eq-eqb, ne_eqb, or_left, or_right, or_from}
+use Rattle.std.proofs.Common.{◌≡◌, ℕ, zero, suc, ◌+◌, ◌-◌, ◌<◌, ◌≤◌, Bool, true, false, cond, ◌&&◌, eqb, List, ◌∷◌, length, drop, sym, refl, ap, ◌∙◌, subst, ⊎_elim, arith}
+use Rattle.std.proofs.lemmas.Bool.{both_ways, cases_lt, eqb-true, eqb-false, ne_eqb, or_left, or_right, or_from}
 use Rattle.cells.specs.declared.cell.Cell.{Cell}
 use Rattle.cells.specs.declared.cell.Cell.TheVariants.{Reference}
 use Rattle.tables.specs.Tables.{Choice, Tables, used, cell_at}
 use Rattle.marks.specs.Sets.{count_below}
-use Rattle.heaps.specs.Lists.{Each, Among, is_in, Different}
+use Rattle.heaps.specs.Lists.{Among, is_in, Different}
 use Rattle.heaps.specs.Leads.{heap_of, LeadsBy}
 use Rattle.heaps.specs.Spelling.{arity_of}
 use Rattle.heaps.specs.Levels.{seen_from}

@@ -1,5 +1,5 @@
 -- Tables with some trail entries taken off: the cell of such an entry is made unbound, and trail tops fall to match.
-use Rattle.std.specs.Prelude.{◌≡◌, ℕ, Bool, true, cond, not, ◌&&◌, List, map, length, take}
+use Rattle.std.specs.Prelude.{◌≡◌, ℕ, Bool, true, cond, not, ◌&&◌, map, length, take}
 use Rattle.cells.specs.declared.cell.Cell.TheVariants.{Reference}
 use Rattle.tables.specs.Tables.{Choice, Tables, used, with_tops}
 use Rattle.heaps.specs.Lists.{Each, is_in}

@@ -1,6 +1,6 @@
 -- What an order of the reached cells must have, so that placing them in it is a collection.
 use Rattle.std.specs.Prelude.{◌≡◌, ℕ, ◌+◌, ◌<◌, ◌≤◌, true, List, length}
-use Rattle.tables.specs.Tables.{Choice, Tables, used, cell_at}
+use Rattle.tables.specs.Tables.{Tables, used, cell_at}
 use Rattle.heaps.specs.Lists.{Each, is_in, Different}
 use Rattle.heaps.specs.Leads.{heap_of, LeadsBy}
 use Rattle.heaps.specs.Spelling.{arity_of}

@@ -1,13 +1,12 @@
 -- The lines of a listing follow one another, and lines that follow one another are those of what they list.
-use Rattle.std.proofs.Common.{◌≡◌, ℕ, zero, suc, ◌+◌, ◌*◌, ◌<◌, ◌≤◌, Bool, true, ◌&&◌, eqb, ltb, List, [], ◌∷◌, ◌++◌, length, sym, refl, ap, ◌∙◌, subst, ap₂, zero-add, arith}
-use Rattle.std.proofs.lemmas.List.{append-nil, append_assoc, length_push, nil_from_length}
-use Rattle.std.proofs.lemmas.Bool.{and_from, and_parts, eq-eqb, eqb-true, lt-ltb}
+use Rattle.std.proofs.Common.{◌≡◌, ℕ, suc, ◌+◌, ◌*◌, ◌<◌, ◌≤◌, true, eqb, List, [], ◌∷◌, ◌++◌, length, sym, refl, ap, subst, arith}
+use Rattle.std.proofs.lemmas.List.{append-nil, append_assoc, length_push}
+use Rattle.std.proofs.lemmas.Bool.{and_from, eq-eqb, lt-ltb}
 use Rattle.cells.specs.declared.cell.Cell.{Cell}
 use Rattle.lines.specs.declared.item.Item.{Item}
 use Rattle.lines.specs.declared.item.Item.TheVariants as item
-use Rattle.lines.specs.Lines.{none}
 use Rattle.images.specs.Text.{Listing, numbered, items_of}
-use Rattle.images.specs.Reading.{no_tops, no_choices, no_trail, no_registers, follows, added, nothing, whole}
+use Rattle.images.specs.Reading.{follows, added, nothing}
 
 -- the lines follow l one after another, and m is listed in the end
 abbrev pub Accepts : Listing → List Item → Listing → Type 0

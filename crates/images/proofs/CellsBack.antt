@@ -1,6 +1,5 @@
 -- A cell in range comes back from the two words of its kind and value, and the words from the cell that they are read as.
-use Rattle.std.proofs.Common.{◌≡◌, ℕ, zero, suc, ◌+◌, ◌*◌, ◌/◌, ◌%◌, ◌^◌, ◌<◌, ◌≤◌, Bool, true, false, cond, ◌&&◌, eqb, leb, List, [], ◌∷◌, length, ℤ, pos, negsuc, Some, None, codes, decimal, Option, sym, refl, ap, ◌∙◌, subst, ap₂, arith}
-use Rattle.std.specs.Fmt.{signed_decimal}
+use Rattle.std.proofs.Common.{◌≡◌, ℕ, ◌/◌, ◌%◌, ◌^◌, ◌<◌, ◌≤◌, true, cond, eqb, leb, List, [], ◌∷◌, length, ℤ, pos, negsuc, Some, None, codes, decimal, Option, refl, ap, ◌∙◌, ap₂, arith}
 use Rattle.std.proofs.lemmas.Bool.{and_parts, cond-true, eqb-true, leb-true, ltb-true}
 use Rattle.cells.specs.declared.cell.Cell.{Cell}
 use Rattle.cells.specs.declared.cell.Cell.TheVariants.{Reference, Pointer, Functor, Atom, Integer}
@@ -8,7 +7,7 @@ use Rattle.cells.specs.Cells.{in_range, functor_value}
 use Rattle.lines.specs.declared.word.Kind.{Kind}
 use Rattle.lines.specs.declared.word.Kind.TheVariants as kind
 use Rattle.lines.specs.Words.{natural, integer, kind_of, letter}
-use Rattle.lines.specs.Lines.{mapped, cell_by, ranged, cell_in, limited, number_by, number_in}
+use Rattle.lines.specs.Lines.{mapped, cell_by, ranged, cell_in, limited, number_in}
 use Rattle.images.specs.Text.{kind_text, value_text}
 use Rattle.lines.proofs.Options.{not_some, or_from}
 use Rattle.images.proofs.InPlace.{ranged_parts, limited_parts}

@@ -1,10 +1,10 @@
 -- Each line puts what it says at its place in the tables.
-use Rattle.std.proofs.Common.{◌≡◌, ℕ, zero, suc, ◌+◌, ◌-◌, ◌*◌, ◌/◌, ◌%◌, ◌<◌, ◌≤◌, true, List, [], ◌∷◌, ◌++◌, reverse, length, get_or, drop, set, replicate, sym, refl, ap, ◌∙◌, ap₂, arith}
+use Rattle.std.proofs.Common.{◌≡◌, ℕ, zero, suc, ◌-◌, ◌*◌, ◌/◌, ◌%◌, ◌<◌, ◌≤◌, true, List, [], ◌∷◌, ◌++◌, reverse, length, get_or, drop, set, replicate, sym, ap, ◌∙◌, ap₂, arith}
 use Rattle.std.proofs.lemmas.List.{nil_from_length, reverse-append, get_or-reverse, length-reverse, length-append, length-drop}
 use Rattle.std.proofs.lemmas.Bool.{and_parts, eqb-true, ltb-true}
 use Rattle.cells.specs.declared.cell.Cell.{Cell}
 use Rattle.cells.specs.declared.cell.Cell.TheVariants.{Atom}
-use Rattle.tables.specs.Tables.{Choice, Tables, no_choice, choice_at, set_choice, set_register, push_choice, with_choices, with_saved, with_tops}
+use Rattle.tables.specs.Tables.{Choice, no_choice, choice_at, set_choice, set_register, push_choice, with_choices, with_saved, with_tops}
 use Rattle.tables.proofs.Views.{reverse_set}
 use Rattle.lines.specs.declared.item.Item.TheVariants as item
 use Rattle.images.specs.Text.{Listing}

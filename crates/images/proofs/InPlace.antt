@@ -1,8 +1,7 @@
 -- What a line says is in range.
-use Rattle.std.proofs.Common.{◌≡◌, ℕ, Bool, true, false, cond, leb, List, [], ◌∷◌, ℤ, Some, None, Ok, Err, Option, Result, sym, refl, ap, ◌∙◌, subst, arith}
+use Rattle.std.proofs.Common.{◌≡◌, ℕ, Bool, true, false, cond, leb, List, [], ◌∷◌, ℤ, Some, None, Ok, Err, Option, refl, subst, arith}
 use Rattle.cells.specs.declared.cell.Cell.{Cell}
 use Rattle.cells.specs.Cells.{in_range}
-use Rattle.lines.specs.declared.fault.LineFault.{LineFault}
 use Rattle.lines.specs.declared.fault.LineFault.TheVariants as fault
 use Rattle.lines.specs.declared.word.Kind.{Kind}
 use Rattle.lines.specs.declared.word.Kind.TheVariants as kind
@@ -10,7 +9,7 @@ use Rattle.lines.specs.declared.word.Part.{Part}
 use Rattle.lines.specs.declared.word.Part.TheVariants as part
 use Rattle.lines.specs.declared.item.Item.{Item}
 use Rattle.lines.specs.declared.item.Item.TheVariants as item
-use Rattle.lines.specs.Lines.{words_of, shaped, cell_by, ranged, cell_in, limited, number_by, number_in, both, item_by, item_in, item_of, or_bad_line, line_read}
+use Rattle.lines.specs.Lines.{words_of, shaped, cell_by, ranged, cell_in, limited, number_in, both, item_by, item_in, item_of, or_bad_line, line_read}
 use Rattle.lines.specs.Words.{part_named, letter, natural, integer}
 use Rattle.images.specs.Drafts.{in_place}
 use Rattle.lines.proofs.Options.{not_some}

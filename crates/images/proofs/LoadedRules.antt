@@ -1,5 +1,5 @@
 -- Tables that are loaded keep the rules and fit the memory.
-use Rattle.std.proofs.Common.{◌≡◌, ℕ, suc, ◌+◌, ◌*◌, ◌<◌, ◌≤◌, Bool, true, false, cond, ◌&&◌, eqb, ltb, List, [], ◌∷◌, ◌++◌, reverse, length, take, drop, Some, None, Ok, Err, Option, Result, sym, refl, ap, ◌∙◌, subst, arith}
+use Rattle.std.proofs.Common.{◌≡◌, ℕ, suc, ◌*◌, ◌<◌, ◌≤◌, Bool, true, ◌&&◌, eqb, ltb, List, [], ◌∷◌, ◌++◌, length, take, drop, Some, None, Ok, Err, Option, Result, sym, refl, ap, ◌∙◌, subst, arith}
 use Rattle.std.proofs.lemmas.List.{length_push, length-take, length-drop}
 use Rattle.std.proofs.lemmas.Bool.{and_parts, eqb-true, ltb-true}
 use Rattle.cells.specs.declared.cell.Cell.{Cell}
@@ -7,7 +7,7 @@ use Rattle.cells.specs.Cells.{in_range}
 use Rattle.tables.specs.Tables.{Choice, Tables}
 use Rattle.heaps.specs.declared.rule.Fault.{Fault}
 use Rattle.heaps.specs.Lists.{Each}
-use Rattle.heaps.specs.Rules.{Rules, Fits}
+use Rattle.heaps.specs.Rules.{Fits}
 use Rattle.heaps.specs.RuleTests.{fault}
 use Rattle.heaps.proofs.EachLaws.{each_take, each_drop}
 use Rattle.heaps.proofs.RuleTestsFault.{fault_none}
@@ -17,8 +17,8 @@ use Rattle.lines.specs.declared.item.Item.{Item}
 use Rattle.lines.specs.declared.item.Item.TheVariants as item
 use Rattle.lines.specs.Lines.{split}
 use Rattle.lines.specs.Heads.{head_read}
-use Rattle.images.specs.Text.{Listing, numbered, items_of, text_of}
-use Rattle.images.specs.Reading.{nothing, follows, added, whole, over, choices_from, registers_from, tables_from, after_head, read_lines, read_head, tables_in, fault_or, ruled, loaded}
+use Rattle.images.specs.Text.{Listing, numbered, items_of}
+use Rattle.images.specs.Reading.{nothing, follows, added, whole, choices_from, registers_from, tables_from, after_head, read_lines, read_head, tables_in, fault_or, ruled, loaded}
 use Rattle.images.specs.Drafts.{in_place}
 use Rattle.images.specs.ImageLaws.{LoadedIsText}
 use Rattle.images.proofs.Accepted.{Accepts}

@@ -1,5 +1,5 @@
 -- The text of tables is loaded as those tables, so tables have different texts.
-use Rattle.std.proofs.Common.{◌≡◌, ℕ, Ok, sym, ap, ◌∙◌}
+use Rattle.std.proofs.Common.{◌≡◌, Ok, sym, ap, ◌∙◌}
 use Rattle.tables.specs.Tables.{Tables}
 use Rattle.heaps.specs.Rules.{Rules, Fits}
 use Rattle.heaps.proofs.RuleTestsFault.{fault_none}

@@ -1,5 +1,5 @@
 -- Tables that keep the rules and fit the memory have a text that can be read.
-use Rattle.std.proofs.Common.{◌≡◌, ℕ, zero, suc, ◌+◌, ◌*◌, ◌^◌, ◌<◌, ◌≤◌, true, leb, List, [], ◌∷◌, ◌++◌, map, reverse, length, sym, refl, ap, ◌∙◌, subst, ap₂, arith}
+use Rattle.std.proofs.Common.{◌≡◌, ℕ, suc, ◌+◌, ◌*◌, ◌^◌, ◌<◌, ◌≤◌, true, List, [], ◌∷◌, map, reverse, length, sym, refl, ap, ◌∙◌, arith}
 use Rattle.std.specs.List.{flat_map}
 use Rattle.std.proofs.lemmas.List.{length-append, length-map, length-reverse}
 use Rattle.std.proofs.lemmas.Bool.{and_from, eq-eqb, le-leb}
@@ -12,7 +12,7 @@ use Rattle.heaps.specs.Leads.{heap_of}
 use Rattle.heaps.proofs.EachLaws.{each_append, each_map}
 use Rattle.lines.specs.declared.item.Item.{Item}
 use Rattle.lines.specs.declared.item.Item.TheVariants as item
-use Rattle.images.specs.Text.{Listing, listing_of, numbered, items_of}
+use Rattle.images.specs.Text.{listing_of, numbered, items_of}
 use Rattle.images.specs.Reading.{whole}
 use Rattle.images.proofs.Accepted.{Placed}
 use Rattle.images.proofs.TextsBack.{Written}

@@ -1,6 +1,5 @@
 -- Texts of tables are read as those tables, and what is read is a text of tables.
-use Rattle.std.proofs.Common.{◌≡◌, ℕ, suc, ◌*◌, ◌^◌, ◌<◌, ◌≤◌, Bool, true, false, cond, ◌&&◌, eqb, List, [], ◌∷◌, ◌++◌, map, reverse, length, Ok, Err, Result, sym, refl, ap, ◌∙◌, subst, ap₂, arith}
-use Rattle.std.proofs.lemmas.List.{append_assoc}
+use Rattle.std.proofs.Common.{◌≡◌, ℕ, ◌*◌, Bool, true, false, cond, ◌&&◌, eqb, List, [], ◌∷◌, ◌++◌, length, Ok, Err, Result, sym, refl, ap, ◌∙◌, ap₂, arith}
 use Rattle.std.proofs.lemmas.Bool.{and_parts, eqb-true}
 use Rattle.std.specs.Str.{bytes_eq}
 use Rattle.std.proofs.lemmas.Slice.Eq.{bytes_eq-Decides}
@@ -11,13 +10,13 @@ use Rattle.lines.specs.declared.fault.LineFault.TheVariants as fault
 use Rattle.lines.specs.Lines.{split, words_of, shaped}
 use Rattle.lines.specs.Heads.{head, head_read}
 use Rattle.images.specs.Text.{Listing, listing_of, items_of, text_of}
-use Rattle.images.specs.Reading.{nothing, whole, tables_from, by_last, after_head, read_lines, read_head, tables_in}
+use Rattle.images.specs.Reading.{nothing, whole, tables_from, after_head, read_lines, read_head, tables_in}
 use Rattle.images.proofs.Pieces.{glued, glued_split, split_joined}
 use Rattle.images.proofs.ImageReading.{head_first}
-use Rattle.images.proofs.Accepted.{Accepts, Placed, accepts_items}
+use Rattle.images.proofs.Accepted.{Placed, accepts_items}
 use Rattle.images.proofs.Listed.{items_accepted}
-use Rattle.images.proofs.TextsBack.{Written, text_lines, lines_read, Consists, lines_consist, glued_lines}
-use Rattle.images.proofs.TablesBack.{tables_back, listing_back}
+use Rattle.images.proofs.TextsBack.{Written, text_lines, lines_read, lines_consist, glued_lines}
+use Rattle.images.proofs.TablesBack.{listing_back}
 
 abbrev pub text_from : Listing → List ℕ
 text_from m = head ++ (10 ∷ text_lines (items_of m))

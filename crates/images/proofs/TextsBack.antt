@@ -1,20 +1,19 @@
 -- A text is read as the listing whose lines it has.
-use Rattle.std.proofs.Common.{◌≡◌, ℕ, suc, ◌^◌, ◌<◌, Bool, true, false, cond, List, [], ◌∷◌, ◌++◌, map, length, Ok, Err, Result, sym, refl, ap, ◌∙◌, subst, ap₂, arith}
+use Rattle.std.proofs.Common.{◌≡◌, ℕ, suc, ◌^◌, ◌<◌, Bool, true, false, cond, List, [], ◌∷◌, ◌++◌, map, length, Ok, Err, Result, sym, refl, ap, ◌∙◌, ap₂, arith}
 use Rattle.std.specs.List.{flat_map}
 use Rattle.std.proofs.lemmas.List.{append_assoc, nil_from_length}
 use Rattle.std.proofs.lemmas.Bool.{cond-true, eqb-true}
 use Rattle.tables.specs.Tables.{Tables}
 use Rattle.heaps.specs.Lists.{Each}
 use Rattle.lines.specs.declared.fault.LineFault.{LineFault}
-use Rattle.images.specs.declared.fault.LoadFault.{LoadFault}
 use Rattle.images.specs.declared.fault.LoadFault.TheVariants as load
 use Rattle.lines.specs.declared.item.Item.{Item}
 use Rattle.lines.specs.Lines.{none, split, line_read}
 use Rattle.images.specs.Text.{Listing, line_of, ended}
-use Rattle.images.specs.Reading.{follows, added, whole, tables_from, at_end, go_on, by_last, read_lines}
+use Rattle.images.specs.Reading.{follows, added, whole, tables_from, at_end, go_on, read_lines}
 use Rattle.images.specs.Drafts.{in_place}
 use Rattle.images.specs.ImageLaws.{index_of}
-use Rattle.images.proofs.Pieces.{glued, glued_split, split_joined}
+use Rattle.images.proofs.Pieces.{glued, split_joined}
 use Rattle.images.proofs.InPlace.{read_in_place}
 use Rattle.images.proofs.ImageReading.{line_first}
 use Rattle.images.proofs.LinesBack.{line_read_lem, line_text, line_lacks}

@@ -1,11 +1,11 @@
 -- The text of tables: a head line, and one line for each place.
-use Rattle.std.specs.Prelude.{ℕ, zero, suc, List, [], ◌∷◌, ◌++◌, map, reverse, codes, decimal}
+use Rattle.std.specs.Prelude.{ℕ, suc, List, [], ◌∷◌, ◌++◌, map, reverse, codes, decimal}
 use Rattle.std.specs.Fmt.{signed_decimal}
 use Rattle.std.specs.List.{flat_map}
 use Rattle.cells.specs.declared.cell.Cell.{Cell}
 use Rattle.cells.specs.declared.cell.Cell.TheVariants.{Reference, Pointer, Functor, Atom, Integer}
 use Rattle.cells.specs.Cells.{functor_value}
-use Rattle.tables.specs.Tables.{Choice, Tables}
+use Rattle.tables.specs.Tables.{Tables}
 use Rattle.lines.specs.declared.word.Part.{Part}
 use Rattle.lines.specs.declared.word.Part.TheVariants as part
 use Rattle.lines.specs.declared.item.Item.{Item}

@@ -10,7 +10,7 @@ use Rattle.lines.specs.declared.line.Words.{Words}
 use Rattle.lines.specs.declared.word.Part.{Part}
 use Rattle.lines.specs.declared.word.Part.TheVariants as part
 use Rattle.lines.specs.Faults.{of_word}
-use Rattle.lines.specs.Words.{or_bad, word_shaped, part_named, letter, natural, integer, part_in, kind_in, natural_in, integer_in}
+use Rattle.lines.specs.Words.{or_bad, word_shaped, part_named, letter, natural, part_in, kind_in, natural_in, integer_in}
 use Rattle.lines.specs.Lines.{words_of, shaped, both, item_in, item_of, or_bad_line, line_read}
 use Rattle.lines.specs.Cuts.{Spread}
 use Rattle.lines.proofs.Options.{bad_passed}

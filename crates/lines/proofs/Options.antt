@@ -1,5 +1,5 @@
 -- How an option comes about: from a test, or from other options.
-use Rattle.std.proofs.Common.{◌≡◌, ℕ, Bool, true, false, cond, Some, None, Ok, Err, Option, refl, subst, arith}
+use Rattle.std.proofs.Common.{◌≡◌, ℕ, Bool, true, false, cond, Some, None, Err, Option, refl, subst, arith}
 use Rattle.lines.specs.declared.fault.WordFault.{WordFault}
 use Rattle.lines.specs.declared.fault.WordFault.TheVariants as fault
 use Rattle.lines.specs.Words.{or_bad}

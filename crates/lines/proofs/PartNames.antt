@@ -1,5 +1,5 @@
 -- A part has one name, and a name one part.
-use Rattle.std.proofs.Common.{◌≡◌, ℕ, cond, List, Some, None, Option, refl}
+use Rattle.std.proofs.Common.{◌≡◌, ℕ, cond, List, Some, Option, refl}
 use Rattle.std.specs.Str.{bytes_eq}
 use Rattle.std.proofs.lemmas.Slice.Eq.{bytes_eq-Decides}
 use Rattle.lines.specs.declared.word.Part.{Part}

@@ -1,5 +1,5 @@
 -- Collections by copying and sliding, under any pile of layers, are lawful at every point of a run; so the law over runs holds of them.
-use Rattle.std.proofs.Common.{◌≡◌, List, [], ◌∷◌}
+use Rattle.std.proofs.Common.{List, [], ◌∷◌}
 use Rattle.tables.specs.Tables.{Tables}
 use Rattle.heaps.specs.LevelLaws.{Stands}
 use Rattle.collectors.specs.Collectors.{Shows}

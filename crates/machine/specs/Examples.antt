@@ -1,5 +1,5 @@
 -- The worked examples, as one list of equations on the definitions.
-use Rattle.std.specs.Prelude.{◌≡◌, ℕ, List, [], ◌∷◌, replicate, ℤ, pos, negsuc, Ok, Err}
+use Rattle.std.specs.Prelude.{◌≡◌, ℕ, List, [], ◌∷◌, replicate, pos, negsuc, Ok, Err}
 use Rattle.std.proofs.Math.Option.{none}
 use Rattle.cells.specs.declared.cell.Cell.TheVariants.{Functor, Atom, Integer}
 use Rattle.cells.specs.declared.refusal.Refusal.TheVariants.{WrongSlip, NoRegister, OutOfRange, WrongCount, NoCells}

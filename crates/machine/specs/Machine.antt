@@ -5,7 +5,6 @@ use Rattle.cells.specs.declared.refusal.Refusal.{Refusal}
 use Rattle.cells.specs.declared.answer.Seen.{Seen}
 use Rattle.cells.specs.declared.answer.Seen.TheVariants.{Variable, Atom as SeenAtom, Integer as SeenInteger, Structure}
 use Rattle.cells.specs.declared.answer.Verdict.TheVariants.{No, Yes}
-use Rattle.cells.specs.declared.cell.Cell.TheVariants.{Atom}
 use Rattle.cells.specs.Cells.{functor_value}
 use Rattle.tables.specs.Tables.{Choice, Tables, used}
 use Rattle.terms.specs.Terms.{Label, named, whole, functor, Term, Terms, var, node, nil, cons, apply, pick, change, joined, long, row, same_tree}

@@ -1,8 +1,7 @@
 -- The law over runs: whatever list of calls is run, with whichever lawful collectors, every answer, slip and refusal is
 -- the tree machine's; and after each collection the used cells are the count that its collector's meaning gives.
-use Rattle.std.specs.Prelude.{◌≡◌, ℕ, Bool, true, false, cond, not, List, [], ◌∷◌}
-use Rattle.std.proofs.Math.Option.{Option, some, none}
-use Rattle.cells.specs.declared.refusal.Refusal.{Refusal}
+use Rattle.std.specs.Prelude.{◌≡◌, Bool, true, false, cond, List, [], ◌∷◌}
+use Rattle.std.proofs.Math.Option.{none}
 use Rattle.cells.specs.declared.refusal.Refusal.TheVariants.{HalfMade, WrongSlip, NoRegister, OutOfRange, WrongCount, NoArgument, ChoicesFull, NoChoice, NoCells, BadShape, BadLayout, BrokenRule}
 use Rattle.tables.specs.Tables.{Tables, used, set_up}
 use Rattle.heaps.specs.Rules.{Rules, Fits}
@@ -11,7 +10,6 @@ use Rattle.calls.specs.declared.Call.{Call}
 use Rattle.calls.specs.declared.Call.TheVariants.{Var, Atom as SetAtom, Int, Move, Look, Arg, Same, Unify, Open, Retry, Last, Cut, Start, Put, Hole, Done, Void, Collect, Usage}
 use Rattle.calls.specs.declared.Answer.{Answer}
 use Rattle.calls.specs.declared.Answer.TheVariants.{Nothing, Refused, Sees, Tells, Hands, Counts}
-use Rattle.calls.specs.Refusals.{is_some}
 use Rattle.calls.specs.Steps as Store
 use Rattle.calls.specs.Steps.{State}
 use Rattle.machine.specs.Machine as Tree

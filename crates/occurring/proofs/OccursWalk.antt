@@ -1,5 +1,5 @@
 -- The walk of the occurs check: from the cells that the word leads to, each listed cell in turn, until the variable is met or none is left.
-use Rattle.std.proofs.Common.{◌≡◌, ℕ, suc, ◌+◌, ◌<◌, ◌≤◌, Bool, true, false, List, [], ◌∷◌, length, get_or, sym, refl, ap, ◌∙◌, subst, ⊎_elim, arith}
+use Rattle.std.proofs.Common.{◌≡◌, ℕ, suc, ◌+◌, ◌<◌, ◌≤◌, true, false, List, [], ◌∷◌, length, get_or, sym, refl, ap, ◌∙◌, subst, ⊎_elim, arith}
 use Rattle.std.proofs.lemmas.Bool.{cases_lt, cases_Bool, both_ways}
 use Rattle.cells.specs.declared.cell.Cell.{Cell}
 use Rattle.tables.specs.Tables.{Tables, used, cell_at}
@@ -8,10 +8,9 @@ use Rattle.heaps.specs.Lists.{is_in, here}
 use Rattle.heaps.specs.Leads.{Heap, heap_of, first, many, LeadsBy, refers_to, unbound}
 use Rattle.heaps.specs.Spelling.{spell}
 use Rattle.heaps.specs.Reached.{Reaches, direct, onward}
-use Rattle.heaps.specs.Rules.{WordKeeps, Rules}
 use Rattle.heaps.specs.LevelLaws.{Stands, Keeps}
 use Rattle.heaps.proofs.WordKinds.{false_of}
-use Rattle.heaps.proofs.ReachedUsed.{words_reach_used, rules_inside, word_inside}
+use Rattle.heaps.proofs.ReachedUsed.{words_reach_used, rules_inside}
 use Rattle.occurring.specs.Visits.{visit_all}
 use Rattle.heaps.proofs.InLaws.{in_at, place_of}
 use Rattle.occurring.proofs.VisitLaws.{all_keeps, all_here, all_only, all_longer, all_places}

@@ -1,19 +1,14 @@
 -- The argument cells of the structure that a register ends at.
-use Rattle.std.proofs.Common.{◌≡◌, ℕ, ◌<◌, ◌≤◌, Bool, true, false, cond, ◌&&◌, ltb, leb, sym, refl, ap, ◌∙◌, subst, arith}
+use Rattle.std.proofs.Common.{◌≡◌, ℕ, ◌<◌, ap, arith}
 use mathlib.Core.Option.{some, none}
 use Rattle.std.proofs.lemmas.List.{get_or_past}
-use Rattle.std.proofs.lemmas.Bool.{leb-true, and_parts}
 use Rattle.cells.specs.declared.cell.Cell.{Cell}
-use Rattle.cells.specs.declared.cell.Cell.TheVariants.{Reference, Pointer, Functor, Atom, Integer}
-use Rattle.cells.specs.Cells.{in_range}
-use Rattle.tables.specs.Tables.{Tables, used, cell_at, register}
-use Rattle.heaps.specs.Leads.{heap_of, refers_to}
-use Rattle.heaps.specs.Spelling.{arity_of}
-use Rattle.heaps.specs.Ends.{end_by, end, steps_to_end}
+use Rattle.cells.specs.declared.cell.Cell.TheVariants.{Atom}
+use Rattle.tables.specs.Tables.{Tables, cell_at, register}
+use Rattle.heaps.specs.Ends.{end}
 use Rattle.heaps.specs.LevelLaws.{Stands, Keeps}
-use Rattle.heaps.proofs.Sound.{rules_sound, cell_keeps}
-use Rattle.heaps.proofs.KeptWords.{cell_ranged, keeps_register}
-use Rattle.heaps.proofs.EndLaws.{end_step, end_keeps}
+use Rattle.heaps.proofs.KeptWords.{keeps_register}
+use Rattle.heaps.proofs.EndLaws.{end_keeps}
 use Rattle.calls.specs.Steps.{argument, argument_of}
 use Rattle.calls.proofs.KeepCalls.{argument_keeps}
 

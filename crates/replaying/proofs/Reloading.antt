@@ -1,5 +1,5 @@
 -- A store from an image has no structure half made; with it, and without a slip, a bench is what an image makes of it.
-use Rattle.std.proofs.Common.{◌≡◌, ℕ, Bool, Some, None, Ok, Err, Option, Result, refl, ap, ◌∙◌, ap₂, arith}
+use Rattle.std.proofs.Common.{◌≡◌, ℕ, Bool, Some, None, Ok, Err, Option, Result, refl, ap, ap₂, arith}
 use mathlib.Core.Option.{none}
 use Rattle.std.specs.Option as std
 use Rattle.tables.specs.Tables.{Tables}

@@ -1,5 +1,5 @@
 -- Words without spaces come back from the line that they make, and a line from its words.
-use Rattle.std.proofs.Common.{◌≡◌, ℕ, true, List, [], ◌∷◌, ◌++◌, sym, refl, ap, ◌∙◌}
+use Rattle.std.proofs.Common.{◌≡◌, ℕ, true, List, [], ◌∷◌, ◌++◌, sym, ap, ◌∙◌}
 use Rattle.std.proofs.lemmas.List.{append-nil}
 use Rattle.lines.specs.Lines.{words_of}
 use Rattle.images.proofs.Pieces.{lacks, split_joined, split_alone, glued, glued_split}

@@ -1,5 +1,5 @@
 -- A line is a request exactly where it is the text of that request.
-use Rattle.std.proofs.Common.{◌≡◌, ℕ, ◌^◌, ◌<◌, Bool, true, false, cond, List, [], ◌∷◌, ℤ, Some, None, codes, decimal, Option, sym, refl, ap, ◌∙◌, subst, ap₂, arith}
+use Rattle.std.proofs.Common.{◌≡◌, ℕ, ◌^◌, ◌<◌, Bool, true, false, cond, List, [], ◌∷◌, ℤ, Some, None, codes, decimal, Option, refl, ap, ◌∙◌, subst, ap₂, arith}
 use Rattle.std.specs.Fmt.{signed_decimal}
 use Rattle.std.specs.Str.{bytes_eq}
 use Rattle.std.proofs.lemmas.Slice.Eq.{bytes_eq-Decides}
@@ -12,7 +12,7 @@ use Rattle.replaying.specs.declared.request.Request.{Request}
 use Rattle.replaying.specs.declared.request.Request.TheVariants.{Var, Atom, Int, Move, Look, Arg, Same, Unify, Open, Retry, Last, Cut, Start, Put, Hole, Done, Void, Usage}
 use Rattle.replaying.specs.Numbers.{natural64, integer64}
 use Rattle.replaying.specs.Entries.{is_note, bare, with_one, pair_of, int_of, or_pair, with_two, with_three, entry_in, entry_of}
-use Rattle.replaying.specs.Texts.{name_of, numbers_of, line_of, load_line, spaced, Integer64, Fits, RequestIsText, LoadIsText}
+use Rattle.replaying.specs.Texts.{name_of, numbers_of, line_of, spaced, Fits, RequestIsText, LoadIsText}
 use Rattle.replaying.proofs.NumbersBack.{natural64_decimal, decimal_natural64, integer64_signed, signed_integer64, lacks_decimal, lacks_signed}
 use Rattle.replaying.proofs.Spaces.{AllLack, words_spaced, spaced_words}
 

@@ -1,5 +1,5 @@
 -- A line of five words or more is no call.
-use Rattle.std.proofs.Common.{◌≡◌, ℕ, ◌<◌, List, [], ◌∷◌, length, sym, refl, ap, ◌∙◌, arith}
+use Rattle.std.proofs.Common.{◌≡◌, ℕ, ◌<◌, List, [], ◌∷◌, length, refl, arith}
 use Rattle.lines.proofs.Splits.{split_some}
 use Rattle.lines.specs.Lines.{words_of}
 use Rattle.replaying.specs.declared.request.Entry.TheVariants.{NotACall}

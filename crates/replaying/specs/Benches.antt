@@ -1,5 +1,5 @@
 -- What a request answers at a bench, and what it leaves there: the state of the store, and the slip that is held.
-use Rattle.std.specs.Prelude.{ℕ, Bool, true, false, cond, Ok, Err, Result}
+use Rattle.std.specs.Prelude.{Bool, true, false, cond, Ok, Err, Result}
 use Rattle.std.proofs.Math.Option.{Option, some, none}
 use Rattle.std.specs.declared.option.Option as std
 use Rattle.tables.specs.Tables.{Tables}

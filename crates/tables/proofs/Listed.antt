@@ -1,6 +1,6 @@
 -- Reading, writing and cutting the places in use of an array is reading, writing and cutting the list that they stand for.
-use Rattle.std.proofs.Common.{◌≡◌, ℕ, zero, suc, ◌+◌, ◌<◌, ◌≤◌, min, List, [], ◌∷◌, ◌++◌, length, get_or, take, set, sym, refl, ap, ◌∙◌, arith}
-use Rattle.std.proofs.lemmas.List.{length-take-le, get_or-take, get_or_default, take-take, take_all, length-set}
+use Rattle.std.proofs.Common.{◌≡◌, ℕ, zero, suc, ◌<◌, ◌≤◌, List, [], ◌∷◌, length, get_or, take, set, sym, refl, ap, ◌∙◌, arith}
+use Rattle.std.proofs.lemmas.List.{length-take-le, get_or-take, get_or_default}
 
 -- a place of the list is a place in use
 pub within : {X : Type 0} (xs : List X) (n i : ℕ) → n ≤ length xs → i < length (take n xs) → i < n

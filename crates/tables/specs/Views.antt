@@ -1,5 +1,5 @@
 -- What the fixed memory stands for.
-use Rattle.std.specs.Prelude.{List, map, reverse}
+use Rattle.std.specs.Prelude.{map, reverse}
 use Rattle.cells.specs.Cells.{cell_of}
 use Rattle.tables.specs.declared.memory.ChoicePoint.{ChoicePoint}
 use Rattle.tables.specs.declared.memory.Memory.{Memory}

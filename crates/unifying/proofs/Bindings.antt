@@ -1,5 +1,5 @@
 -- Steps of unifying: nothing is bound, or one cell more.
-use Rattle.std.proofs.Common.{◌≡◌, ℕ, suc, ◌+◌, ◌<◌, ◌≤◌, Bool, true, false, cond, eqb, ltb, ◌≢◌, List, [], ◌∷◌, ◌++◌, length, sym, refl, ap, ◌∙◌, subst, inl, inr, ⊎_elim, arith}
+use Rattle.std.proofs.Common.{◌≡◌, ℕ, suc, ◌<◌, ◌≤◌, Bool, true, false, cond, ◌≢◌, List, [], ◌∷◌, ◌++◌, length, sym, refl, ap, ◌∙◌, subst, inl, ⊎_elim, arith}
 use Rattle.std.proofs.lemmas.List.{length_push}
 use Rattle.std.proofs.lemmas.Bool.{cases_eq, both_ways, ne_eqb, eq-eqb, lt-ltb, le-ltb}
 use Rattle.cells.specs.declared.cell.Cell.{Cell}
@@ -10,7 +10,6 @@ use Rattle.terms.specs.Terms.{occurs}
 use Rattle.marks.specs.Sets.{count_below}
 use Rattle.heaps.specs.Lists.{is_in}
 use Rattle.heaps.specs.Leads.{Heap, heap_of, unbound}
-use Rattle.heaps.specs.Spelling.{spell}
 use Rattle.heaps.specs.Binding.{trailed, bind}
 use Rattle.heaps.specs.SpellingLaws.{Bindable}
 use Rattle.heaps.specs.LevelLaws.{Stands, Keeps}
@@ -19,9 +18,8 @@ use Rattle.heaps.proofs.CountLaws.{count_at_most, count_added}
 use Rattle.heaps.proofs.SpellLaws.{spell_unbound}
 use Rattle.heaps.proofs.BindLaws.{heap_bind, used_bind, keeps_bind, now_bound}
 use Rattle.heaps.proofs.BindRules.{rules_bind, fits_bind}
-use Rattle.calls.specs.Unifying.{Next, go, meet}
-use Rattle.binding.specs.Unbinding.{unbind_to}
-use Rattle.unifying.specs.Bindings.{Noted, Stepped, Met, goes, stops}
+use Rattle.calls.specs.Unifying.{go}
+use Rattle.unifying.specs.Bindings.{Noted, Stepped, Met, goes}
 use Rattle.heaps.proofs.InLaws.{in_last, in_other}
 use Rattle.binding.proofs.UnbindLaws.{unbind_bind}
 

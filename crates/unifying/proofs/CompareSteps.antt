@@ -1,5 +1,5 @@
 -- Comparing is a walk with merges: what its rules are, and how two words compare that do not both end at structures.
-use Rattle.std.proofs.Common.{◌≡◌, Bool, true, false, List, [], ◌∷◌, sym, ap, ◌∙◌, arith}
+use Rattle.std.proofs.Common.{◌≡◌, Bool, true, false, List, ◌∷◌, sym, ap, ◌∙◌, arith}
 use Rattle.cells.specs.declared.cell.Cell.{Cell}
 use Rattle.tables.specs.Tables.{Tables}
 use Rattle.heaps.specs.Ends.{end}

@@ -1,5 +1,5 @@
 -- Taking the next two argument cells from a stack of rows.
-use Rattle.std.proofs.Common.{◌≡◌, ℕ, zero, suc, ◌+◌, ◌-◌, ◌<◌, ◌≤◌, List, [], ◌∷◌, length, sym, refl, ap, ◌∙◌, subst, arith, length-take}
+use Rattle.std.proofs.Common.{◌≡◌, ℕ, zero, suc, ◌+◌, ◌-◌, ◌<◌, ◌≤◌, List, [], ◌∷◌, length, sym, ap, ◌∙◌, subst, arith, length-take}
 use mathlib.Core.Option.{Option, some, none}
 use Rattle.tables.specs.Stacks.{listed}
 use Rattle.tables.proofs.Views.{length_turned}

@@ -1,19 +1,17 @@
 -- The ends of two words meet: by their kinds, where they are not both structures.
-use Rattle.std.proofs.Common.{◌≡◌, ℕ, Bool, true, false, cond, ◌≢◌, List, [], ◌∷◌, ℤ, pos, negsuc, sym, refl, ap, ◌∙◌, subst, inl, inr}
+use Rattle.std.proofs.Common.{◌≡◌, ℕ, Bool, true, false, cond, List, ◌∷◌, ℤ, pos, negsuc, sym, refl, ap, ◌∙◌, subst, inl, inr}
 use mathlib.Core.Option.{none}
 use Rattle.std.proofs.lemmas.Bool.{both_ways, eq-eqb}
 use Rattle.cells.specs.declared.cell.Cell.{Cell}
 use Rattle.cells.specs.declared.cell.Cell.TheVariants.{Reference, Pointer, Functor, Atom, Integer}
-use Rattle.tables.specs.Tables.{Tables, used}
-use Rattle.terms.specs.Terms.{Label, named, whole, occurs, same_int, same_label}
+use Rattle.tables.specs.Tables.{Tables}
+use Rattle.terms.specs.Terms.{named, whole, occurs, same_int, same_label}
 use Rattle.terms.proofs.SameLaws.{same_label_true}
-use Rattle.heaps.specs.Leads.{heap_of}
 use Rattle.heaps.specs.Spelling.{spell}
 use Rattle.heaps.specs.Binding.{bind}
-use Rattle.heaps.specs.Rules.{WordKeeps}
 use Rattle.heaps.specs.LevelLaws.{Keeps}
 use Rattle.heaps.proofs.WordKinds.{false_of}
-use Rattle.calls.specs.Unifying.{Pair, rows, Next, stop, go, bind_to, meet}
+use Rattle.calls.specs.Unifying.{Pair, rows, stop, go, bind_to, meet}
 use Rattle.unifying.specs.Merging.{both_pointers}
 use Rattle.unifying.specs.Bindings.{Met, goes, stops}
 

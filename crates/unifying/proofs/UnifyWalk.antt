@@ -1,24 +1,21 @@
 -- Unifying is a walk with merges: what its rules are, how two words meet that do not both end at structures, and what bindings
 -- lead back to.
-use Rattle.std.proofs.Common.{◌≡◌, ℕ, zero, ◌+◌, ◌*◌, ◌<◌, ◌≤◌, Bool, true, false, eqb, ◌⊎◌, List, [], ◌∷◌, length, sym, refl, ap, ◌∙◌, subst, inl, inr, ⊎_elim, arith}
+use Rattle.std.proofs.Common.{◌≡◌, ℕ, ◌<◌, Bool, true, false, eqb, List, [], ◌∷◌, length, sym, refl, ap, ◌∙◌, subst, ⊎_elim, arith}
 use mathlib.Core.Option.{Option, some, none}
 use Rattle.std.proofs.lemmas.Bool.{both_ways, eq-eqb, or_left, or_right}
 use Rattle.cells.specs.declared.cell.Cell.{Cell}
-use Rattle.cells.specs.declared.cell.Cell.TheVariants.{Reference, Pointer}
 use Rattle.tables.specs.Tables.{Tables, used}
 use Rattle.heaps.specs.Lists.{Each, is_in}
 use Rattle.heaps.specs.Ends.{end}
 use Rattle.heaps.specs.LevelLaws.{Stands, Keeps}
-use Rattle.marks.specs.Sets.{count_below}
-use Rattle.calls.specs.Pairs.{PairKeeps}
-use Rattle.calls.specs.Unifying.{Pair, words, rows, Next, stop, go, meet, unify_words}
+use Rattle.calls.specs.Unifying.{Pair, words, rows, Next, go, meet}
 use Rattle.calls.proofs.UnifyPairs.{pairs_keep}
 use Rattle.classes.specs.Merges.{Merge}
 use Rattle.unifying.specs.Merging.{both_pointers, MemoRun, no_more, one_more, skipped, merged, clashed, stopped, went_on}
 use Rattle.unifying.specs.Bindings.{Noted, Stepped, Met, goes, stops}
 use Rattle.binding.specs.Unbinding.{unbind_to}
-use Rattle.unifying.specs.Walking.{Walk, weight, Advanced}
-use Rattle.unifying.specs.Unified.{outcome, Unified}
+use Rattle.unifying.specs.Walking.{Walk, Advanced}
+use Rattle.unifying.specs.Unified.{Unified}
 use Rattle.unifying.proofs.MemoRuns.{memo_right}
 use Rattle.binding.proofs.UnbindLaws.{unbind_none}
 

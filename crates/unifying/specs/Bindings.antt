@@ -1,5 +1,5 @@
 -- What unifying has bound so far, and one more step of it.
-use Rattle.std.specs.Prelude.{◌≡◌, ℕ, ◌<◌, ◌≤◌, Bool, true, false, ◌⊎◌, List, [], ◌∷◌, length}
+use Rattle.std.specs.Prelude.{◌≡◌, ℕ, ◌<◌, ◌≤◌, Bool, true, false, ◌⊎◌, List, ◌∷◌, length}
 use Rattle.std.proofs.Math.Option.{none}
 use Rattle.cells.specs.declared.cell.Cell.{Cell}
 use Rattle.cells.specs.declared.cell.Cell.TheVariants.{Reference}
@@ -8,7 +8,7 @@ use Rattle.marks.specs.Sets.{count_below}
 use Rattle.heaps.specs.Lists.{is_in}
 use Rattle.heaps.specs.Leads.{heap_of, unbound}
 use Rattle.heaps.specs.LevelLaws.{Stands, Keeps}
-use Rattle.calls.specs.Unifying.{Pair, rows, Next, stop, go, meet}
+use Rattle.calls.specs.Unifying.{Pair, rows, stop, go, meet}
 use Rattle.binding.specs.Unbinding.{unbind_to}
 
 -- The listed cells are in use and bound, and they are different.

@@ -1,5 +1,5 @@
 -- What unifying two words leaves.
-use Rattle.std.specs.Prelude.{◌≡◌, Bool, true, false, cond}
+use Rattle.std.specs.Prelude.{◌≡◌, Bool, false, cond}
 use Rattle.std.proofs.Math.Option.{Option, some, none}
 use Rattle.cells.specs.declared.cell.Cell.{Cell}
 use Rattle.tables.specs.Tables.{Tables}

@@ -1,4 +1,4 @@
-use Rattle.std.proofs.Common.{◌≡◌, ◌<◌, sym, ◌∙◌, arith}
+use Rattle.std.proofs.Common.{sym, arith}
 use Rattle.tables.specs.Views.{tables_of}
 use Rattle.binding.proofs.BindRoom.{trail_room}
 use Rattle.binding.proofs.binding.bind.Goals as goal

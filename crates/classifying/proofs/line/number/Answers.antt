@@ -1,4 +1,4 @@
-use Rattle.std.proofs.Common.{sym, ◌∙◌, arith}
+use Rattle.std.proofs.Common.{sym}
 use Rattle.classifying.proofs.Digits.{number_all, number_here, digit_more, number_large}
 use Rattle.classifying.proofs.line.number.Goals as goal
 

@@ -1,7 +1,6 @@
-use Rattle.std.proofs.Common.{◌≡◌, suc, Some, Err, sym, refl, ap, ◌∙◌, subst, add-one, arith, rules}
+use Rattle.std.proofs.Common.{◌≡◌, suc, Err, sym, ap, ◌∙◌, subst, add-one, arith}
 use Rattle.std.proofs.lemmas.Result.{err_from_is_err_and}
 use Rattle.lines.specs.Lines.{split}
-use Rattle.images.specs.Text.{Listing}
 use Rattle.images.specs.Reading.{added, nothing, read_lines, read_head, viewed}
 use Rattle.lines.specs.Readers.{rest, Gives, Hands}
 use Rattle.images.proofs.ImageReading.{head_good, head_bad, line_good, line_bad}

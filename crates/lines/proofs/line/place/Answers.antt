@@ -1,4 +1,4 @@
-use Rattle.std.proofs.Common.{◌≡◌, Some, ap}
+use Rattle.std.proofs.Common.{Some, ap}
 use Rattle.lines.specs.Words.{natural_in, integer_in}
 use Rattle.lines.specs.Lines.{cell_in, number_in, item_by}
 use Rattle.lines.specs.declared.item.Item.TheVariants as item

@@ -1,5 +1,4 @@
-use Rattle.std.proofs.Common.{◌≡◌, suc, ◌+◌, ◌-◌, ◌<◌, ◌≤◌, sym, refl, ap, ◌∙◌, subst, ap₂, arith, rules}
-use Rattle.heaps.specs.Leads.{first, many}
+use Rattle.std.proofs.Common.{◌≡◌, suc, ◌+◌, ◌-◌, ◌≤◌, ap, ◌∙◌, ap₂, arith, rules}
 use Rattle.occurring.specs.Visits.{visited, with_visit, visit_all}
 use Rattle.occurring.proofs.VisitLaws.{leads_end, all_more}
 use Rattle.occurring.proofs.occurring.follow.Goals as goal

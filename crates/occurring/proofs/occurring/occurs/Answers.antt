@@ -1,9 +1,9 @@
-use Rattle.std.proofs.Common.{◌≡◌, ◌<◌, ◌≤◌, length, sym, refl, ap, ◌∙◌, subst, arith, rules}
+use Rattle.std.proofs.Common.{◌<◌, ◌≤◌, length, refl, ◌∙◌, arith, rules}
 use Rattle.tables.specs.Views.{tables_of}
 use Rattle.heaps.specs.Leads.{heap_of}
 use Rattle.heaps.proofs.ReachedUsed.{word_inside}
 use Rattle.occurring.specs.Visits.{visited}
-use Rattle.occurring.proofs.OccursWalk.{Walked, walked_first, walked_more, cell_used, cell_inside, walked_found, walked_all}
+use Rattle.occurring.proofs.OccursWalk.{walked_first, walked_more, cell_used, cell_inside, walked_found, walked_all}
 use Rattle.occurring.proofs.occurring.occurs.Goals as goal
 
 pub loop-place-init : goal.loop-place-init

@@ -1,4 +1,4 @@
-use Rattle.std.proofs.Common.{◌≡◌, ℕ, List, ◌∷◌, sym, ap, ◌∙◌}
+use Rattle.std.proofs.Common.{ℕ, List, ◌∷◌, sym, ap, ◌∙◌}
 use Rattle.replaying.specs.Entries.{words_after, entry_in}
 use Rattle.replaying.proofs.WordCounts.{five_words}
 use Rattle.replaying.proofs.parsing.entry_in.Goals as goal

@@ -1,4 +1,4 @@
-use Rattle.std.proofs.Common.{◌≡◌, ℕ, ◌+◌, ◌<◌, Bool, false, ◌||◌, length, get_or, take, sym, ap, ◌∙◌, arith, below_more}
+use Rattle.std.proofs.Common.{◌≡◌, ℕ, ◌<◌, Bool, false, ◌||◌, length, get_or, take, sym, ap, ◌∙◌, arith, below_more}
 use Rattle.marks.specs.Sets.{with_cell}
 use Rattle.tables.specs.declared.memory.Memory.{Memory}
 use Rattle.tables.specs.Tables.{used}

@@ -1,4 +1,4 @@
-use Rattle.std.proofs.Common.{◌≡◌, ◌≤◌, true, false, length, ap, arith}
+use Rattle.std.proofs.Common.{true, false, length, ap, arith}
 use Rattle.tables.specs.Views.{tables_of}
 use Rattle.calls.specs.Options.{option_of}
 use Rattle.unifying.specs.Merging.{finished}

@@ -1,12 +1,11 @@
-use Rattle.std.proofs.Common.{◌≡◌, sym, ap, ◌∙◌, subst}
+use Rattle.std.proofs.Common.{◌≡◌, sym, ◌∙◌, subst}
 use Rattle.cells.specs.declared.cell.Cell.{Cell}
-use Rattle.tables.specs.Stacks.{listed}
 use Rattle.tables.specs.Tables.{Tables}
 use Rattle.tables.specs.Views.{tables_of}
 use Rattle.heaps.specs.Ends.{end}
 use Rattle.heaps.specs.LevelLaws.{Stands, Keeps}
 use Rattle.heaps.proofs.EndLaws.{end_ends}
-use Rattle.unifying.specs.Bindings.{Stepped, EndsChain}
+use Rattle.unifying.specs.Bindings.{EndsChain}
 use Rattle.unifying.specs.Works.{merges_in, pairs_in, bound_in}
 use Rattle.unifying.proofs.Bindings.{stepped_none}
 use Rattle.unifying.proofs.WalkSteps.{structures_advanced}

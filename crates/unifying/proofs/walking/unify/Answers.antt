@@ -1,5 +1,4 @@
-use Rattle.std.proofs.Common.{◌≡◌, Bool, [], ◌∷◌, sym, refl, ap, ◌∙◌, subst}
-use Rattle.tables.specs.Tables.{Tables}
+use Rattle.std.proofs.Common.{Bool, [], ◌∷◌, sym, ap, ◌∙◌, subst}
 use Rattle.tables.specs.Views.{tables_of}
 use Rattle.calls.specs.Unifying.{words}
 use Rattle.calls.proofs.UnifyMostGeneral.{unify_iso}

@@ -1,12 +1,12 @@
-use Rattle.std.proofs.Common.{◌≡◌, ℕ, ◌≤◌, List, [], ◌∷◌, length, sym, refl, ap, ◌∙◌, subst, arith}
-use mathlib.Core.Option.{Option, some, none}
+use Rattle.std.proofs.Common.{◌≡◌, ℕ, List, [], length, ap, subst, arith}
+use mathlib.Core.Option.{some, none}
 use Rattle.tables.specs.Tables.{Tables}
 use Rattle.tables.specs.Views.{tables_of}
 use Rattle.calls.specs.Options.{option_of}
 use Rattle.unifying.specs.Merging.{finished}
 use Rattle.unifying.specs.Bindings.{Stepped}
 use Rattle.unifying.specs.Frames.{pairs}
-use Rattle.unifying.specs.Works.{merges_in, pairs_in, bound_in}
+use Rattle.unifying.specs.Works.{merges_in, bound_in}
 use Rattle.unifying.proofs.Bindings.{stepped_none}
 use Rattle.classes.proofs.ClassTables.{merges_few}
 use Rattle.unifying.proofs.WalkSteps.{pairs_inside, drawn_none, drawn_keeps, drawn_fewer, turn_on, turn_off, turn_less, from_start, begun}

@@ -1,6 +1,4 @@
-use Rattle.std.proofs.Common.{◌+◌, ◌≤◌, length, refl, inl, inr, arith}
-use Rattle.classes.specs.Classes.{merges}
-use Rattle.classes.specs.Links.{at}
+use Rattle.std.proofs.Common.{refl, inl, inr, arith}
 use Rattle.classes.proofs.ClassTables.{table_linked, merges_few, hung_linked}
 use Rattle.classes.proofs.classes.Classes.merge.Goals as goal
 

@@ -1,8 +1,8 @@
-use Rattle.std.proofs.Common.{◌≡◌, ◌<◌, List, ◌∷◌, length, sym, ap, ◌∙◌, subst, arith}
+use Rattle.std.proofs.Common.{◌≡◌, ◌∷◌, length, ap, ◌∙◌, subst, arith}
 use Rattle.std.proofs.lemmas.List.{length-set}
 use Rattle.tables.specs.Stacks.{listed}
 use Rattle.tables.proofs.Views.{turned_push}
-use Rattle.classes.specs.Merges.{Merge, Joined}
+use Rattle.classes.specs.Merges.{Joined}
 use Rattle.classes.specs.Links.{merges_of, merge_of, at, Untouched}
 use Rattle.classes.proofs.ClassTables.{untouched_fewer}
 use Rattle.classes.proofs.classes.methods.blank.Goals as goal

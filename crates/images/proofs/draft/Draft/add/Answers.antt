@@ -1,4 +1,4 @@
-use Rattle.std.proofs.Common.{◌≡◌, sym, ◌∙◌}
+use Rattle.std.proofs.Common.{sym, ◌∙◌}
 use Rattle.images.proofs.InPlace.{read_in_place}
 use Rattle.images.proofs.draft.Draft.add.Goals as goal
 

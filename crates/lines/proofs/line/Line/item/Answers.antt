@@ -1,4 +1,4 @@
-use Rattle.std.proofs.Common.{◌≡◌, ◌≤◌, length, sym, ap, subst}
+use Rattle.std.proofs.Common.{◌≤◌, length, sym, subst}
 use Rattle.lines.proofs.ItemReads.{short, line_fails, line_works}
 use Rattle.lines.proofs.line.Line.item.Goals as goal
 

@@ -1,4 +1,4 @@
-use Rattle.std.proofs.Common.{◌≡◌, Some, Err, sym, ap, ◌∙◌, ap₂}
+use Rattle.std.proofs.Common.{Some, Err, sym, ap, ◌∙◌, ap₂}
 use Rattle.std.proofs.lemmas.Result.{err_from_is_err_and}
 use Rattle.lines.specs.Words.{or_bad, part_in, kind_in, natural_in, integer_in}
 use Rattle.lines.specs.Lines.{item_in}

@@ -1,4 +1,4 @@
-use Rattle.std.proofs.Common.{sym, refl, arith, rules}
+use Rattle.std.proofs.Common.{sym, refl, rules}
 use Rattle.std.proofs.lemmas.Bool.{and_from, lt-ltb, le-leb}
 use Rattle.lines.proofs.TokenReads.{natural_high, integer_high, letter_low, letter_long, part_low, part_short}
 use Rattle.lines.proofs.word.Token.of.Goals as goal

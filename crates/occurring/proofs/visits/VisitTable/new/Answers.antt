@@ -1,6 +1,5 @@
-use Rattle.std.proofs.Common.{◌≡◌, ◌+◌, length, replicate, sym, refl, ap, ◌∙◌, subst, arith}
-use Rattle.tables.specs.Stacks.{listed}
-use Rattle.occurring.specs.Bytes.{zeros, Ones}
+use Rattle.std.proofs.Common.{length, replicate, sym, refl, ap, subst, arith}
+use Rattle.occurring.specs.Bytes.{Ones}
 use Rattle.occurring.proofs.ByteLaws.{ones_blank, zeros_blank}
 use Rattle.occurring.proofs.visits.VisitTable.new.Goals as goal
 

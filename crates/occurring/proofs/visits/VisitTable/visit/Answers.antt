@@ -1,7 +1,7 @@
-use Rattle.std.proofs.Common.{◌≡◌, ◌+◌, ◌<◌, [], ◌∷◌, ◌++◌, length, set, sym, refl, ap, ◌∙◌, subst, arith, length-set}
+use Rattle.std.proofs.Common.{◌<◌, length, set, sym, ap, ◌∙◌, subst, arith, length-set}
 use Rattle.std.proofs.lemmas.List.{length_push}
 use Rattle.tables.specs.Stacks.{listed}
-use Rattle.occurring.specs.Bytes.{zeros, Ones}
+use Rattle.occurring.specs.Bytes.{Ones}
 use Rattle.occurring.proofs.ByteLaws.{ones_set, zeros_set}
 use Rattle.occurring.proofs.visits.VisitTable.visit.Goals as goal
 

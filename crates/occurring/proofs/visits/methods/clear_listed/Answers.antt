@@ -1,4 +1,4 @@
-use Rattle.std.proofs.Common.{◌≡◌, ◌+◌, ◌<◌, ◌≤◌, true, length, get_or, replicate, sym, refl, ap, ◌∙◌, subst, arith, length-set}
+use Rattle.std.proofs.Common.{◌≡◌, ◌<◌, true, length, replicate, sym, ap, ◌∙◌, subst, arith, length-set}
 use Rattle.tables.specs.Stacks.{listed}
 use Rattle.heaps.specs.Lists.{is_in}
 use Rattle.heaps.proofs.InLaws.{in_at}

@@ -1,10 +1,10 @@
-use Rattle.std.proofs.Common.{◌≡◌, Bool, Ok, Option, sym, ap, ◌∙◌, subst}
+use Rattle.std.proofs.Common.{Ok, Option, sym, ap, ◌∙◌}
 use Rattle.std.specs.Option as std
 use Rattle.images.specs.Reading.{loaded}
 use Rattle.store.specs.declared.store.Slip.{Slip}
 use Rattle.store.specs.Called.{state}
-use Rattle.replaying.specs.Slips.{slip_of, Agrees}
-use Rattle.replaying.specs.Benches.{BenchState, bench_of}
+use Rattle.replaying.specs.Slips.{slip_of}
+use Rattle.replaying.specs.Benches.{bench_of}
 use Rattle.replaying.proofs.SlipsAgree.{agree_from}
 use Rattle.replaying.proofs.Reloading.{some_slip, loaded_free, loaded_bench}
 use Rattle.replaying.proofs.bench.Bench.load.Goals as goal

@@ -1,6 +1,5 @@
-use Rattle.std.proofs.Common.{◌≡◌, sym, ap, ◌∙◌, subst, subst₂}
+use Rattle.std.proofs.Common.{sym, ap, ◌∙◌, subst, subst₂}
 use Rattle.cells.specs.declared.cell.Cell.{Cell}
-use Rattle.tables.specs.Tables.{register}
 use Rattle.tables.specs.Views.{tables_of}
 use Rattle.heaps.specs.LevelLaws.{Keeps}
 use Rattle.heaps.proofs.KeptWords.{keeps_register}
@@ -8,7 +7,6 @@ use Rattle.calls.specs.Steps.{State}
 use Rattle.calls.specs.declared.Answer.{Answer}
 use Rattle.calls.specs.declared.Call.TheVariants.{Unify}
 use Rattle.unifying.specs.Unified.{Unified}
-use Rattle.refusing.specs.States.{state_of}
 use Rattle.store.specs.Called.{state}
 use Rattle.store.proofs.Accepting.{step_accepted}
 use Rattle.store.proofs.Keeping.{stands, whole_after}

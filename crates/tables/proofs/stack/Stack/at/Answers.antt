@@ -1,4 +1,4 @@
-use Rattle.std.proofs.Common.{◌<◌, ◌≤◌, length, arith, rules}
+use Rattle.std.proofs.Common.{◌<◌, rules}
 use Rattle.tables.proofs.Listed.{within, get_or_listed}
 use Rattle.tables.proofs.stack.Stack.at.Goals as goal
 

@@ -1,4 +1,4 @@
-use Rattle.std.proofs.Common.{◌<◌, ◌≤◌, length, rules}
+use Rattle.std.proofs.Common.{◌<◌, rules}
 use Rattle.tables.proofs.Listed.{within, take_set_in}
 use Rattle.tables.proofs.stack.Stack.set.Goals as goal
 

@@ -1,6 +1,6 @@
-use Rattle.std.proofs.Common.{◌≡◌, ℕ, ◌<◌, ◌≤◌, List, [], ◌∷◌, length, sym, refl, ap, ◌∙◌, subst, arith}
+use Rattle.std.proofs.Common.{length, ap, subst, arith}
 use Rattle.heaps.specs.Lists.{Each}
-use Rattle.unifying.specs.Frames.{rows_of, pairs}
+use Rattle.unifying.specs.Frames.{pairs}
 use Rattle.unifying.specs.Walking.{Inside}
 use Rattle.unifying.proofs.Drawing.{frames_few, draws_none, draws_done, draws_first}
 use Rattle.unifying.proofs.frames.Frames.next.Goals as goal
