@@ -39,7 +39,7 @@ CLIENT
 refused() {
   status=0
   try_client "$3" || status=$?
-  if [ "$status" -eq 0 ] || ! grep -q "error\[$2\]" "$room/said"; then
+  if [ "$status" -ne 1 ] || ! grep -q "error\[$2\]" "$room/said"; then
     echo "slips: $1: not refused with $2 (exit $status)" >&2
     cat "$room/said" >&2
     exit 1

@@ -3,7 +3,7 @@ ghost use Rattle.images.specs.Faults.{of_line, of_rule, refusal_of, broken_rule,
 
 use cells::Refusal;
 use heaps::{Fault, Rule};
-use lines::LineFault;
+pub use lines::{LineFault, WordFault};
 
 // Why an image cannot be loaded.
 #[derive(Clone, Copy, PartialEq, Eq)]

@@ -6,6 +6,5 @@ mod draft;
 pub mod fault;
 mod reading;
 
-pub use fault::LoadFault;
-pub use lines::{LineFault, WordFault};
+pub use fault::{LineFault, LoadFault, WordFault};
 pub use reading::{images_are_texts, read};
