@@ -1,6 +1,5 @@
 -- Each accepted call leaves a whole state whole.
-use Rattle.std.proofs.Common.{◌≡◌, ℕ, ◌+◌, Bool, true, false, cond, ◌||◌, eqb, ltb, [], length, ℤ, sym, refl, subst, inl, inr, arith}
-use mathlib.Core.Option.{Option, some, none}
+use Rattle.std.proofs.Common.{◌≡◌, ℕ, ◌+◌, Bool, true, false, cond, ◌||◌, eqb, ltb, [], length, ℤ, sym, refl, subst, inl, inr, arith, Option, Some, None}
 use Rattle.std.proofs.lemmas.Bool.{not-false, ltb-false, leb-false, eqb-false, or_parts}
 use Rattle.cells.specs.declared.cell.Cell.{Cell}
 use Rattle.cells.specs.declared.cell.Cell.TheVariants.{Reference, Pointer, Functor, Atom, Integer}
@@ -49,11 +48,11 @@ keep_move d r left s w a = let e = half_none s a.0.0 in let k = none_stands s e 
     none_whole s _ e (stands_set_register s.tables d (register s.tables r) (keeps_register s.tables r k) k)
 
 -- An argument of the structure at the end of a chain may stand in a register.
-pub argument_keeps : (t : Tables) → Stands t → (c : Cell) → WordKeeps (heap_of t.heap) (used t) c → (i n : ℕ) → argument_of t c i ≡ some n → Keeps t (cell_at t n)
+pub argument_keeps : (t : Tables) → Stands t → (c : Cell) → WordKeeps (heap_of t.heap) (used t) c → (i n : ℕ) → argument_of t c i ≡ Some n → Keeps t (cell_at t n)
 argument_keeps t o (Reference m) k i n e = absurd (let z : ◌≡◌ {A = ℕ} 0 1 = cc in omega arith)
 argument_keeps t o (Pointer m) k i n e = by (eqb i 0 || ltb (arity_of (cell_at t m)) i) refl e
   where
-    by : (b : Bool) → (eqb i 0 || ltb (arity_of (cell_at t m)) i) ≡ b → cond b none (some (m + i)) ≡ some n → Keeps t (cell_at t n)
+    by : (b : Bool) → (eqb i 0 || ltb (arity_of (cell_at t m)) i) ≡ b → cond b None (Some (m + i)) ≡ Some n → Keeps t (cell_at t n)
     by true p q = absurd (let z : ◌≡◌ {A = ℕ} 0 1 = cc in omega arith)
     by false p q = let r : m + i ≡ n = cc in let parts = or_parts (eqb i 0) (ltb (arity_of (cell_at t m)) i) p in
         let x = eqb-false i 0 parts.0 in let y = ltb-false (arity_of (cell_at t m)) i parts.1 in
@@ -68,12 +67,12 @@ keep_arg d r i left s w a = by (argument t r i) refl
     t : Tables
     t = s.tables
 
-    e : s.half ≡ none
+    e : s.half ≡ None
     e = half_none s a.0.0
 
     by : (o : Option ℕ) → argument t r i ≡ o → Whole (set_argument s d o).1
-    by none p = w
-    by (some n) p = let k = none_stands s e w in none_whole s _ e (stands_set_register t d (cell_at t n)
+    by None p = w
+    by (Some n) p = let k = none_stands s e w in none_whole s _ e (stands_set_register t d (cell_at t n)
         (argument_keeps t k (end t (register t r)) (end_keeps t k.0 (register t r) (keeps_register t r k).0) i n p) k)
 
 keep_unify : (p q : ℕ) → Keeping (Unify p q)
@@ -82,12 +81,12 @@ keep_unify p q left s w a = by (unify_words t (register t p) (register t q)) ref
     t : Tables
     t = s.tables
 
-    e : s.half ≡ none
+    e : s.half ≡ None
     e = half_none s a.0.0
 
     by : (o : Option Tables) → unify_words t (register t p) (register t q) ≡ o → Whole (if_unified s o).1
-    by none x = w
-    by (some u) x = let k = none_stands s e w in none_whole s u e (unify_keeps t u (register t p) (register t q) k (keeps_register t p k) (keeps_register t q k) x).0
+    by None x = w
+    by (Some u) x = let k = none_stands s e w in none_whole s u e (unify_keeps t u (register t p) (register t q) k (keeps_register t p k) (keeps_register t q k) x).0
 
 keep_open : Keeping Open
 keep_open left s w a = let e = half_none s a.0.0 in let q = a.0.1.0 in

@@ -1,6 +1,5 @@
 -- The laws of calls, from what each accepted call does.
-use Rattle.std.proofs.Common.{◌≡◌, true, List, [], ◌∷◌, length, sym, refl, ap, ◌∙◌, arith}
-use mathlib.Core.Option.{Option, some, none}
+use Rattle.std.proofs.Common.{◌≡◌, true, List, [], ◌∷◌, length, sym, refl, ap, ◌∙◌, arith, Option, Some, None}
 use Rattle.std.proofs.lemmas.Bool.{both_ways, eqb-false}
 use Rattle.tables.specs.Tables.{Tables}
 use Rattle.heaps.specs.Lists.{Each}
@@ -29,8 +28,8 @@ pub whole_tables : WholeTables
 whole_tables s w = by s.half w
   where
     by : (o : Option Half) → WholeWith s.tables o → Stands s.tables
-    by none x = x
-    by (some h) x = (half_tables s.tables h x).0
+    by None x = x
+    by (Some h) x = (half_tables s.tables h x).0
 
 pub step_keeps : StepKeeps
 step_keeps c left s w l = step_either Whole c left s w (act_keeps c left s w l)

@@ -1,6 +1,5 @@
 -- The calls that open no choice point and leave none keep what the newest choice point goes back to.
-use Rattle.std.proofs.Common.{◌≡◌, ℕ, true, false, [], ◌∷◌, ◌++◌, replicate, sym, refl, ap, ◌∙◌, inl, inr}
-use mathlib.Core.Option.{Option, some, none}
+use Rattle.std.proofs.Common.{◌≡◌, ℕ, true, false, [], ◌∷◌, ◌++◌, replicate, sym, refl, ap, ◌∙◌, inl, inr, Option, Some, None}
 use Rattle.std.proofs.lemmas.Bool.{both_ways}
 use Rattle.cells.specs.declared.cell.Cell.{Cell}
 use Rattle.cells.specs.declared.cell.Cell.TheVariants.{Reference, Pointer, Functor, Atom, Integer}
@@ -34,8 +33,8 @@ level_arg : (d r i : ℕ) → Levelled (Arg d r i)
 level_arg d r i left s w has a = by (argument s.tables r i)
   where
     by : (o : Option ℕ) → last (set_argument s d o).1.tables ≡ last s.tables
-    by none = refl
-    by (some n) = last_set_register s.tables has d (cell_at s.tables n)
+    by None = refl
+    by (Some n) = last_set_register s.tables has d (cell_at s.tables n)
 
 level_unify : (p q : ℕ) → Levelled (Unify p q)
 level_unify p q left s w has a = by (unify_words t (register t p) (register t q)) refl
@@ -44,8 +43,8 @@ level_unify p q left s w has a = by (unify_words t (register t p) (register t q)
     t = s.tables
 
     by : (o : Option Tables) → unify_words t (register t p) (register t q) ≡ o → last (if_unified s o).1.tables ≡ last t
-    by none x = refl
-    by (some u) x = let k = none_stands s (half_none s a.0.0) w in (unify_keeps t u (register t p) (register t q) k (keeps_register t p k) (keeps_register t q k) x).1 has
+    by None x = refl
+    by (Some u) x = let k = none_stands s (half_none s a.0.0) w in (unify_keeps t u (register t p) (register t q) k (keeps_register t p k) (keeps_register t q k) x).1 has
 
 level_retry : Levelled Retry
 level_retry left s w has a = let o = none_stands s (half_none s a.0.0) w in ap last (retry_last s.tables o.0 has) ∙ last_push_choice (last s.tables)

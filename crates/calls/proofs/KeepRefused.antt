@@ -1,6 +1,5 @@
 -- A call is refused by its tests only: what an accepted call answers is no refusal, and a refused call leaves the state as it was.
-use Rattle.std.proofs.Common.{◌≡◌, ℕ, ◌+◌, Bool, true, false, ltb, refl, ap}
-use mathlib.Core.Option.{Option, some, none}
+use Rattle.std.proofs.Common.{◌≡◌, ℕ, ◌+◌, Bool, true, false, ltb, refl, ap, Option, Some, None}
 use Rattle.std.proofs.lemmas.Bool.{both_ways}
 use Rattle.cells.specs.declared.refusal.Refusal.{Refusal}
 use Rattle.tables.specs.Tables.{Tables, used, register}
@@ -22,22 +21,22 @@ is_refused (Hands x) = false
 is_refused (Counts a b c) = false
 
 argument_answers : (s : State) (d : ℕ) (o : Option ℕ) → is_refused (set_argument s d o).0 ≡ false
-argument_answers s d none = refl
-argument_answers s d (some n) = refl
+argument_answers s d None = refl
+argument_answers s d (Some n) = refl
 
 unified_answers : (s : State) (o : Option Tables) → is_refused (if_unified s o).0 ≡ false
-unified_answers s none = refl
-unified_answers s (some u) = refl
+unified_answers s None = refl
+unified_answers s (Some u) = refl
 
 half_answers : (s : State) (f : Half → Answer × State) → ((h : Half) → is_refused (f h).0 ≡ false) → is_refused (on_half s f).0 ≡ false
 half_answers s f g = by s.half
   where
     with_half_lem : Option Half → Answer × State
-    with_half_lem o = elim o [ none ↦ (Nothing, s) | some h ↦ f h ]
+    with_half_lem o = elim o [ None ↦ (Nothing, s) | Some h ↦ f h ]
 
     by : (o : Option Half) → is_refused (with_half_lem o).0 ≡ false
-    by none = refl
-    by (some h) = g h
+    by None = refl
+    by (Some h) = g h
 
 pub act_answers : (c : Call) (left : Tables) (s : State) → is_refused (act c left s).0 ≡ false
 act_answers (Var d) left s = refl
@@ -64,6 +63,6 @@ pub refused_unchanged : RefusedUnchanged
 refused_unchanged c left s why e = by (refusal_of c s) (ltb 4096 (used s.tables + cells_needed c)) e
   where
     by : (o : Option Refusal) (b : Bool) → (unless o b s (act c left s)).0 ≡ Refused why → (unless o b s (act c left s)).1 ≡ s
-    by (some x) b q = refl
-    by none true q = refl
-    by none false q = absurd (both_ways (is_refused (act c left s).0) (act_answers c left s) (ap is_refused q))
+    by (Some x) b q = refl
+    by None true q = refl
+    by None false q = absurd (both_ways (is_refused (act c left s).0) (act_answers c left s) (ap is_refused q))

@@ -1,6 +1,5 @@
 -- Beginning a structure, writing its arguments and giving it up change nothing else in the tables.
-use Rattle.std.proofs.Common.{◌≡◌, ℕ, true, false, [], sym, refl, ap, ◌∙◌, inl, inr}
-use mathlib.Core.Option.{Option, some, none}
+use Rattle.std.proofs.Common.{◌≡◌, ℕ, true, false, [], sym, refl, ap, ◌∙◌, inl, inr, Option, Some, None}
 use Rattle.std.proofs.lemmas.Bool.{both_ways}
 use Rattle.cells.specs.declared.cell.Cell.TheVariants.{Reference}
 use Rattle.tables.specs.Tables.{Tables, register}
@@ -15,11 +14,11 @@ use Rattle.calls.specs.KeepLaws.{settled, builds, SettledKept}
 use Rattle.calls.proofs.KeepHalf.{without_making, half_written}
 use Rattle.calls.proofs.KeepSteps.{Accepted, step_either, half_none, half_some, some_stands, on_half_some, missing_some}
 
-pub settled_none : (s : State) → s.half ≡ none → settled s ≡ s.tables
-settled_none s e = ap (λ (o : Option Half). elim o [ none ↦ s.tables | some h ↦ without s.tables h ]) e
+pub settled_none : (s : State) → s.half ≡ None → settled s ≡ s.tables
+settled_none s e = ap (λ (o : Option Half). elim o [ None ↦ s.tables | Some h ↦ without s.tables h ]) e
 
-settled_some : (s : State) (h : Half) → s.half ≡ some h → settled s ≡ without s.tables h
-settled_some s h e = ap (λ (o : Option Half). elim o [ none ↦ s.tables | some k ↦ without s.tables k ]) e
+settled_some : (s : State) (h : Half) → s.half ≡ Some h → settled s ≡ without s.tables h
+settled_some s h e = ap (λ (o : Option Half). elim o [ None ↦ s.tables | Some k ↦ without s.tables k ]) e
 
 -- An accepted call leaves the tables without the structure as they were.
 abbrev Settling : Call → Type 0

@@ -1,6 +1,5 @@
 -- Each step of unification on tables is Robinson's step on the goals that the pairs spell.
-use Rattle.std.proofs.Common.{◌≡◌, ℕ, zero, suc, ◌+◌, ◌<◌, Bool, true, false, cond, eqb, ltb, List, [], ◌∷◌, sym, refl, ap, ◌∙◌, subst, subst₂, arith}
-use mathlib.Core.Option.{Option, some, none}
+use Rattle.std.proofs.Common.{◌≡◌, ℕ, zero, suc, ◌+◌, ◌<◌, Bool, true, false, cond, eqb, ltb, List, [], ◌∷◌, sym, refl, ap, ◌∙◌, subst, subst₂, arith, Option, Some, None}
 use Rattle.std.proofs.lemmas.Bool.{both_ways}
 use Rattle.cells.specs.declared.cell.Cell.{Cell}
 use Rattle.cells.specs.declared.cell.Cell.TheVariants.{Reference, Pointer, Functor, Atom, Integer}
@@ -64,10 +63,10 @@ module _ (t₀ t : Tables) (ps : List Pair) (σ : Subst) (b : Bound t₀ t σ) (
 
   -- a variable meets a word that spells a label with arguments
   binds_to : (x : ℕ) (w : Cell) (l : Label) (us : Terms) → Keeps t (Reference x) → unbound (heap_of t.heap) x ≡ true → Keeps t w → S w ≡ node l us
-      → AlongNext t₀ (bind_to t x w ps) (cond (occurs x us) (Terms.stop none) (Terms.bind x (node l us) σ gs))
+      → AlongNext t₀ (bind_to t x w ps) (cond (occurs x us) (Terms.stop None) (Terms.bind x (node l us) σ gs))
   binds_to x w l us kx free kw e = test (occurs x (S w)) (occurs x us) (ap (occurs x) e) refl
     where
-      test : (c d : Bool) → c ≡ d → occurs x us ≡ d → AlongNext t₀ (cond c (Cells.stop none) (Cells.go (bind t x w) ps)) (cond d (Terms.stop none) (Terms.bind x (node l us) σ gs))
+      test : (c d : Bool) → c ≡ d → occurs x us ≡ d → AlongNext t₀ (cond c (Cells.stop None) (Cells.go (bind t x w) ps)) (cond d (Terms.stop None) (Terms.bind x (node l us) σ gs))
       test true true p o = tt
       test true false p o = absurd (both_ways true p refl)
       test false true p o = absurd (both_ways false refl p)
@@ -82,14 +81,14 @@ module _ (t₀ t : Tables) (ps : List Pair) (σ : Subst) (b : Bound t₀ t σ) (
       rest = Terms.go σ (each (run S (suc p) m) (run S (suc q) n) ∷ gs)
 
       P : Cell → Cell → Type 0
-      P c d = AlongNext t₀ (cond (same_label (label_of c) (label_of d)) (Cells.go t (rows (suc p) (suc q) (arity_of c) ∷ ps)) (Cells.stop none))
-          (cond (same_label (functor f m) (functor g n)) rest (Terms.stop none))
+      P c d = AlongNext t₀ (cond (same_label (label_of c) (label_of d)) (Cells.go t (rows (suc p) (suc q) (arity_of c) ∷ ps)) (Cells.stop None))
+          (cond (same_label (functor f m) (functor g n)) rest (Terms.stop None))
 
       argument : (i h k j : ℕ) → i < used t → cell_at t i ≡ Functor h k → j < k → Keeps t (Reference (suc i + j))
       argument i h k j lt e le = keeps_reference t (suc i + j) b.stands.1 (b.stands.0.arguments i h k (suc i + j) lt e (omega arith) (omega arith))
 
       test : (c : Bool) → same_label (functor f m) (functor g n) ≡ c
-          → AlongNext t₀ (cond c (Cells.go t (rows (suc p) (suc q) m ∷ ps)) (Cells.stop none)) (cond c rest (Terms.stop none))
+          → AlongNext t₀ (cond c (Cells.go t (rows (suc p) (suc q) m ∷ ps)) (Cells.stop None)) (cond c rest (Terms.stop None))
       test true e = let l : functor f m ≡ functor g n = same_label_true _ _ e in let k : n ≡ m = cc in record {
         bound = b;
         pairs = ((λ j lt. (argument p f m j lp ep lt, argument q g n j lq eq (omega arith))), v);
@@ -98,7 +97,7 @@ module _ (t₀ t : Tables) (ps : List Pair) (σ : Subst) (b : Bound t₀ t σ) (
       test false e = tt
 
   -- two atoms or two integers
-  constants : (c : Bool) → AlongNext t₀ (cond c (Cells.go t (rows 0 0 0 ∷ ps)) (Cells.stop none)) (cond c (Terms.go σ (each nil nil ∷ gs)) (Terms.stop none))
+  constants : (c : Bool) → AlongNext t₀ (cond c (Cells.go t (rows 0 0 0 ∷ ps)) (Cells.stop None)) (cond c (Terms.go σ (each nil nil ∷ gs)) (Terms.stop None))
   constants true = record { bound = b; pairs = ((λ j lt. absurd (omega arith)), v); goals = refl }
   constants false = tt
 
@@ -180,17 +179,17 @@ unify_steps t a b s k l = subst₂ P (sym (apply_var (spell t.heap a))) (sym (ap
     P u w = BothBound t (unify_words t a b) (Terms.solve (Terms.enough (Terms.variables u + Terms.variables w) (suc (size u + size w))) var (both u w ∷ []))
 
 -- What the answer on tables says of the answer on terms.
-pub unify_some : (t : Tables) (a b : Cell) (u : Tables) → Stands t → Keeps t a → Keeps t b → unify_words t a b ≡ some u
-    → (σ : Subst) × (unify var (spell t.heap a) (spell t.heap b) ≡ some σ) × Bound t u σ
+pub unify_some : (t : Tables) (a b : Cell) (u : Tables) → Stands t → Keeps t a → Keeps t b → unify_words t a b ≡ Some u
+    → (σ : Subst) × (unify var (spell t.heap a) (spell t.heap b) ≡ Some σ) × Bound t u σ
 unify_some t a b u s k l e = by (unify var (spell t.heap a) (spell t.heap b)) (subst (λ (o : Option Tables). BothBound t o (unify var (spell t.heap a) (spell t.heap b))) e (unify_steps t a b s k l))
   where
-    by : (r : Option Subst) → BothBound t (some u) r → (σ : Subst) × (r ≡ some σ) × Bound t u σ
-    by none p = absurd p
-    by (some σ) p = (σ, refl, p)
+    by : (r : Option Subst) → BothBound t (Some u) r → (σ : Subst) × (r ≡ Some σ) × Bound t u σ
+    by None p = absurd p
+    by (Some σ) p = (σ, refl, p)
 
-pub unify_none : (t : Tables) (a b : Cell) → Stands t → Keeps t a → Keeps t b → unify_words t a b ≡ none → unify var (spell t.heap a) (spell t.heap b) ≡ none
+pub unify_none : (t : Tables) (a b : Cell) → Stands t → Keeps t a → Keeps t b → unify_words t a b ≡ None → unify var (spell t.heap a) (spell t.heap b) ≡ None
 unify_none t a b s k l e = by (unify var (spell t.heap a) (spell t.heap b)) (subst (λ (o : Option Tables). BothBound t o (unify var (spell t.heap a) (spell t.heap b))) e (unify_steps t a b s k l))
   where
-    by : (r : Option Subst) → BothBound t none r → r ≡ none
-    by none p = refl
-    by (some σ) p = absurd p
+    by : (r : Option Subst) → BothBound t None r → r ≡ None
+    by None p = refl
+    by (Some σ) p = absurd p

@@ -1,9 +1,8 @@
 -- A state is whole in at most one way, so a field without content may hold this fact, and gives it back.
-use Rattle.std.proofs.Common.{◌≡◌, ℕ, suc, ◌≤◌, ◌⊎◌, List, [], ◌∷◌, ap, subst, inl, inr, arith}
+use Rattle.std.proofs.Common.{◌≡◌, ℕ, suc, ◌≤◌, ◌⊎◌, List, [], ◌∷◌, ap, subst, inl, inr, arith, Option, Some, None}
 use mathlib.Core.Bool.{Bool-set}
 use mathlib.Core.Logic.{∥∥₁_elim}
 use mathlib.Core.HLevel.{×_prop, Unit-prop}
-use mathlib.Core.Option.{Option, some, none}
 use native.Mathlib.Nat.{ℕ_set}
 use native.Mathlib.Bridge.{le_prop}
 use Rattle.std.proofs.lemmas.List.{length-take}
@@ -37,8 +36,8 @@ half_prop t h = HalfStands-prop (Bool-set _ _) (Bool-set _ _) (ℕ_set _ _) le_p
     (arguments_prop (without t h) (suc h.at) _ (let a = length-take h.at t.heap in omega arith)) (cells_set _ _)
 
 whole_prop : (t : Tables) (o : Option Half) → IsProp (WholeWith t o)
-whole_prop t none = stands_prop t
-whole_prop t (some h) = half_prop t h
+whole_prop t None = stands_prop t
+whole_prop t (Some h) = half_prop t h
 
 pub whole_of : (s : State) → ∥ Whole s ∥₁ → Whole s
 whole_of s h = ∥∥₁_elim h (whole_prop s.tables s.half) (λ w. w)

@@ -1,6 +1,5 @@
 -- What is proved of every call: statements, each of which stands in the contract of a public function.
-use Rattle.std.specs.Prelude.{◌≡◌, ℕ, ◌+◌, ◌-◌, ◌<◌, Bool, true, false, List, [], ◌∷◌, length}
-use Rattle.std.proofs.Math.Option.{some, none}
+use Rattle.std.specs.Prelude.{◌≡◌, ℕ, ◌+◌, ◌-◌, ◌<◌, Bool, true, false, List, [], ◌∷◌, length, Some, None}
 use Rattle.cells.specs.declared.refusal.Refusal.{Refusal}
 use Rattle.tables.specs.Tables.{Tables, set_up, push_choice}
 use Rattle.heaps.specs.Lists.{Each}
@@ -16,7 +15,7 @@ use Rattle.calls.specs.Whole.{without, Whole}
 
 -- A store starts whole.
 abbrev pub WholeStart : Type 0
-WholeStart = Whole (record { tables = set_up; half = none })
+WholeStart = Whole (record { tables = set_up; half = None })
 
 -- The tables stand, also while a structure is half made.
 abbrev pub WholeTables : Type 0
@@ -80,7 +79,7 @@ RefusedUnchanged = (c : Call) (left : Tables) (s : State) (why : Refusal) → (s
 
 -- the tables without the structure that is half made, if there is one
 abbrev pub settled : State → Tables
-settled s = elim s.half [ none ↦ s.tables | some h ↦ without s.tables h ]
+settled s = elim s.half [ None ↦ s.tables | Some h ↦ without s.tables h ]
 
 -- the calls that begin, go on with and give up a structure
 abbrev pub builds : Call → Bool
@@ -115,5 +114,5 @@ step_all (c ∷ cs) left s = step_all cs left (step c left s).1
 
 -- So a structure that is begun and given up leaves the tables as they were before.
 abbrev pub VoidBack : Type 0
-VoidBack = (cs : List Call) (left : Tables) (s : State) → Whole s → Each (λ c. builds c ≡ true) cs → s.half ≡ none → (step_all cs left s).half ≡ none
+VoidBack = (cs : List Call) (left : Tables) (s : State) → Whole s → Each (λ c. builds c ≡ true) cs → s.half ≡ None → (step_all cs left s).half ≡ None
     → (step_all cs left s).tables ≡ s.tables

@@ -1,4 +1,3 @@
-pub mod Options
 pub mod Refusals
 pub mod Unifying
 pub mod Pairs

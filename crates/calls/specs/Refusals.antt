@@ -1,7 +1,6 @@
 -- When a call is refused, and with what. The tests of a call run in the order of the refusals' numbers, and the first
 -- that hits is answered. The store and the tree machine share these tests, but for want of cells, which only a store knows.
-use Rattle.std.specs.Prelude.{ℕ, suc, Bool, true, false, cond, not, ◌&&◌, ◌||◌, List, [], ◌∷◌, ◌==◌, nat_le, nat_lt}
-use Rattle.std.proofs.Math.Option.{Option, some, none}
+use Rattle.std.specs.Prelude.{ℕ, suc, Bool, true, false, cond, not, ◌&&◌, ◌||◌, List, [], ◌∷◌, ◌==◌, nat_le, nat_lt, Option, Some, None}
 use Rattle.cells.specs.declared.cell.Cell.TheVariants.{Functor, Atom, Integer}
 use Rattle.cells.specs.declared.refusal.Refusal.{Refusal}
 use Rattle.cells.specs.declared.refusal.Refusal.TheVariants.{HalfMade, WrongSlip, NoRegister, OutOfRange, WrongCount, NoArgument, ChoicesFull, NoChoice}
@@ -11,12 +10,12 @@ use Rattle.calls.specs.declared.Call.{Call}
 use Rattle.calls.specs.declared.Call.TheVariants.{Var, Atom as SetAtom, Int, Move, Look, Arg, Same, Unify, Open, Retry, Last, Cut, Start, Put, Hole, Done, Void, Collect, Usage}
 
 abbrev pub first_hit : List (Refusal × Bool) → Option Refusal
-first_hit [] = none
-first_hit (x ∷ xs) = cond x.1 (some x.0) (first_hit xs)
+first_hit [] = None
+first_hit (x ∷ xs) = cond x.1 (Some x.0) (first_hit xs)
 
 abbrev pub is_some : {A : Type 0} → Option A → Bool
-is_some none = false
-is_some (some a) = true
+is_some None = false
+is_some (Some a) = true
 
 -- a register above 7
 abbrev pub no_register : ℕ → Bool
@@ -28,8 +27,8 @@ same_draft a b = a.name == b.name && (a.arity == b.arity && a.missing == b.missi
 
 -- the slip differs from the half-made structure, or there is none
 abbrev pub wrong_slip : Option Draft → Draft → Bool
-wrong_slip none slip = true
-wrong_slip (some half) slip = not (same_draft half slip)
+wrong_slip None slip = true
+wrong_slip (Some half) slip = not (same_draft half slip)
 
 -- The tests of a call, in their order.
 -- half: what a slip of the half-made structure would say, if there is one; points: the number of choice points;

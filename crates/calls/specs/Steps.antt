@@ -1,6 +1,5 @@
 -- What each call answers and what it makes of the tables.
-use Rattle.std.specs.Prelude.{ℕ, suc, pred, ◌+◌, ◌-◌, Bool, true, false, cond, ◌||◌, ◌∷◌, ◌++◌, length, replicate, ◌==◌, nat_lt}
-use Rattle.std.proofs.Math.Option.{Option, some, none}
+use Rattle.std.specs.Prelude.{ℕ, suc, pred, ◌+◌, ◌-◌, Bool, true, false, cond, ◌||◌, ◌∷◌, ◌++◌, length, replicate, ◌==◌, nat_lt, Option, Some, None}
 use Rattle.cells.specs.declared.cell.Cell.{Cell}
 use Rattle.cells.specs.declared.cell.Cell.TheVariants.{Reference, Pointer, Functor, Atom, Integer}
 use Rattle.cells.specs.declared.refusal.Refusal.{Refusal}
@@ -47,7 +46,7 @@ abbrev pub draft_of : Tables → Half → Draft
 draft_of t h = record { name = name_of (cell_at t h.at); arity = arity_of (cell_at t h.at); missing = h.missing }
 
 abbrev pub draft : State → Option Draft
-draft s = elim s.half [ none ↦ none | some h ↦ some (draft_of s.tables h) ]
+draft s = elim s.half [ None ↦ None | Some h ↦ Some (draft_of s.tables h) ]
 
 -- what is seen at the end of a chain
 abbrev pub seen_at : Tables → Cell → Seen
@@ -59,29 +58,29 @@ seen_at t (Integer z) = SeenInteger z
 
 -- the cell of argument i of the structure at the end of a chain, counted from 1
 abbrev pub argument_of : Tables → Cell → ℕ → Option ℕ
-argument_of t (Reference n) i = none
-argument_of t (Pointer n) i = cond (i == 0 || nat_lt (arity_of (cell_at t n)) i) none (some (n + i))
-argument_of t (Functor name arity) i = none
-argument_of t (Atom n) i = none
-argument_of t (Integer z) i = none
+argument_of t (Reference n) i = None
+argument_of t (Pointer n) i = cond (i == 0 || nat_lt (arity_of (cell_at t n)) i) None (Some (n + i))
+argument_of t (Functor name arity) i = None
+argument_of t (Atom n) i = None
+argument_of t (Integer z) i = None
 
 abbrev pub argument : Tables → ℕ → ℕ → Option ℕ
 argument t s i = argument_of t (end t (register t s)) i
 
 abbrev pub lacks_argument : Tables → ℕ → ℕ → Bool
-lacks_argument t s i = elim (argument t s i) [ none ↦ true | some n ↦ false ]
+lacks_argument t s i = elim (argument t s i) [ None ↦ true | Some n ↦ false ]
 
 abbrev pub verdict : Bool → Verdict
 verdict true = Yes
 verdict false = No
 
 abbrev pub set_argument : State → ℕ → Option ℕ → Answer × State
-set_argument s d none = (Nothing, s)
-set_argument s d (some n) = (Nothing, keeping s (set_register s.tables d (cell_at s.tables n)))
+set_argument s d None = (Nothing, s)
+set_argument s d (Some n) = (Nothing, keeping s (set_register s.tables d (cell_at s.tables n)))
 
 abbrev pub if_unified : State → Option Tables → Answer × State
-if_unified s none = (Tells No, s)
-if_unified s (some t) = (Tells Yes, keeping s t)
+if_unified s None = (Tells No, s)
+if_unified s (Some t) = (Tells Yes, keeping s t)
 
 -- the cell of the next argument to be written
 abbrev pub next_argument : Tables → Half → ℕ
@@ -92,10 +91,10 @@ abbrev pub write : State → Cell → Half → Answer × State
 write s w h =
     let t = set_cell s.tables (next_argument s.tables h) w in
     let rest : Half = record { at = h.at; missing = pred h.missing } in
-    (Hands (draft_of t rest), record { tables = t; half = some rest })
+    (Hands (draft_of t rest), record { tables = t; half = Some rest })
 
 abbrev pub on_half : State → (Half → Answer × State) → Answer × State
-on_half s f = elim s.half [ none ↦ (Nothing, s) | some h ↦ f h ]
+on_half s f = elim s.half [ None ↦ (Nothing, s) | Some h ↦ f h ]
 
 abbrev pub usage : Tables → Answer
 usage t = Counts (used t) (length t.trail) (length t.choices)
@@ -117,20 +116,20 @@ act (Cut k) left s = (Nothing, keeping s (keep_choices s.tables k))
 act (Start name arity) left s =
     let t = s.tables in (
       Hands (record { name = name; arity = arity; missing = arity }),
-      record { tables = with_heap t (t.heap ++ (Functor name arity ∷ replicate arity (Atom 0))); half = some (record { at = used t; missing = arity }) },
+      record { tables = with_heap t (t.heap ++ (Functor name arity ∷ replicate arity (Atom 0))); half = Some (record { at = used t; missing = arity }) },
     )
 act (Put slip r) left s = on_half s (write s (register s.tables r))
 act (Hole slip) left s = on_half s (λ h. write s (Reference (next_argument s.tables h)) h)
-act (Done slip d) left s = on_half s (λ h. (Nothing, record { tables = set_register s.tables d (Pointer h.at); half = none }))
-act (Void slip) left s = on_half s (λ h. (Nothing, record { tables = cut_heap s.tables h.at; half = none }))
+act (Done slip d) left s = on_half s (λ h. (Nothing, record { tables = set_register s.tables d (Pointer h.at); half = None }))
+act (Void slip) left s = on_half s (λ h. (Nothing, record { tables = cut_heap s.tables h.at; half = None }))
 act Collect left s = (Nothing, keeping s left)
 act Usage left s = (usage s.tables, s)
 
 -- a refused call changes nothing
 abbrev pub unless : Option Refusal → Bool → State → Answer × State → Answer × State
-unless (some why) full s r = (Refused why, s)
-unless none true s r = (Refused NoCells, s)
-unless none false s r = r
+unless (Some why) full s r = (Refused why, s)
+unless None true s r = (Refused NoCells, s)
+unless None false s r = r
 
 abbrev pub refusal_of : Call → State → Option Refusal
 refusal_of c s = refusal (draft s) (length s.tables.choices) (lacks_argument s.tables) c

@@ -1,6 +1,5 @@
 -- What is proved of unification on tables: statements, each of which stands in the contract of a public function.
-use Rattle.std.specs.Prelude.{◌≡◌}
-use Rattle.std.proofs.Math.Option.{Option, some, none}
+use Rattle.std.specs.Prelude.{◌≡◌, Option, Some, None}
 use Rattle.cells.specs.declared.cell.Cell.{Cell}
 use Rattle.tables.specs.Tables.{Tables, used}
 use Rattle.terms.specs.Terms.{var, apply}
@@ -26,10 +25,10 @@ pub record Bound (t u : Tables) (σ : Subst) : Type 0 where
 
 -- Tables and terms both say no; or both say yes, and the tables are bound as the terms' answer says.
 abbrev pub BothBound : Tables → Option Tables → Option Subst → Type 0
-BothBound t none none = Unit {0}
-BothBound t none (some σ) = ⊥
-BothBound t (some u) none = ⊥
-BothBound t (some u) (some σ) = Bound t u σ
+BothBound t None None = Unit {0}
+BothBound t None (Some σ) = ⊥
+BothBound t (Some u) None = ⊥
+BothBound t (Some u) (Some σ) = Bound t u σ
 
 -- Unifying two words takes Robinson's steps on the terms that they spell, with an unbound cell c as variable c.
 abbrev pub UnifySteps : Type 0
@@ -39,8 +38,8 @@ UnifySteps = (t : Tables) (a b : Cell) → Stands t → Keeps t a → Keeps t b
 -- No substitution makes the two spelled terms equal;
 -- or an idempotent most general unifier of theirs is what happened to every spelled term.
 abbrev pub MadeEqual : Tables → Cell → Cell → Option Tables → Type 0
-MadeEqual t a b none = (θ : Subst) → Unifier θ (spell t.heap a) (spell t.heap b) → ⊥
-MadeEqual t a b (some u) =
+MadeEqual t a b None = (θ : Subst) → Unifier θ (spell t.heap a) (spell t.heap b) → ⊥
+MadeEqual t a b (Some u) =
     (μ : Subst) × MostGeneral μ (spell t.heap a) (spell t.heap b) × Idempotent μ × ((d : Cell) → spell u.heap d ≡ apply μ (spell t.heap d))
 
 abbrev pub UnifyIso : Type 0

@@ -1,7 +1,6 @@
 -- What every state of a store keeps. While no structure is half made, the tables keep the rules and fit the memory.
 -- A half-made structure is the newest part of the heap, and the tables without it keep the rules and fit.
-use Rattle.std.specs.Prelude.{◌≡◌, suc, ◌+◌, ◌-◌, ◌≤◌, true, List, take, drop, replicate}
-use Rattle.std.proofs.Math.Option.{Option, some, none}
+use Rattle.std.specs.Prelude.{◌≡◌, suc, ◌+◌, ◌-◌, ◌≤◌, true, List, take, drop, replicate, Option, Some, None}
 use Rattle.cells.specs.declared.cell.Cell.{Cell}
 use Rattle.cells.specs.declared.cell.Cell.TheVariants.{Atom}
 use Rattle.cells.specs.Cells.{in_range}
@@ -37,8 +36,8 @@ pub record HalfStands (t : Tables) (h : Half) : Type 0 where
   deriving IsProp as HalfStands-prop
 
 abbrev pub WholeWith : Tables → Option Half → Type 0
-WholeWith t none = Stands t
-WholeWith t (some h) = HalfStands t h
+WholeWith t None = Stands t
+WholeWith t (Some h) = HalfStands t h
 
 abbrev pub Whole : State → Type 0
 Whole s = WholeWith s.tables s.half

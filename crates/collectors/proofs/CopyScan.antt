@@ -1,6 +1,5 @@
 -- The scan of copying goes on until nothing is missing: exactly the reached cells are brought. So copying shows what a collector must.
-use Rattle.std.proofs.Common.{◌≡◌, ℕ, zero, suc, ◌+◌, ◌<◌, ◌≤◌, Bool, true, false, cond, eqb, List, [], ◌∷◌, ◌++◌, length, sym, refl, ap, ◌∙◌, subst, ⊎_elim, arith}
-use mathlib.Core.Option.{Option, some, none}
+use Rattle.std.proofs.Common.{◌≡◌, ℕ, zero, suc, ◌+◌, ◌<◌, ◌≤◌, Bool, true, false, cond, eqb, List, [], ◌∷◌, ◌++◌, length, sym, refl, ap, ◌∙◌, subst, ⊎_elim, arith, Option, Some, None}
 use Rattle.std.proofs.lemmas.Bool.{both_ways, cases_lt, cases_eq, eqb-true, eq-eqb, or_left, or_right, or_cases}
 use Rattle.cells.specs.declared.cell.Cell.{Cell}
 use Rattle.tables.specs.Tables.{Tables, used, cell_at}
@@ -27,36 +26,36 @@ use Rattle.collectors.proofs.CopyOrder.{Brought, brought_none, Extends, extends_
 
 -- What stands at a place.
 
-at_in : (xs : List ℕ) (k x : ℕ) → at xs k ≡ some x → is_in x xs ≡ true
+at_in : (xs : List ℕ) (k x : ℕ) → at xs k ≡ Some x → is_in x xs ≡ true
 at_in [] k x e = absurd (let z : ◌≡◌ {A = ℕ} 0 1 = cc in omega arith)
 at_in (y ∷ ys) zero x e = let q : y ≡ x = cc in or_left (eqb y x) (is_in x ys) (eq-eqb y x q)
 at_in (y ∷ ys) (suc k) x e = or_right (eqb y x) (is_in x ys) (at_in ys k x e)
 
-at_none : (xs : List ℕ) (k : ℕ) → at xs k ≡ none → length xs ≤ k
+at_none : (xs : List ℕ) (k : ℕ) → at xs k ≡ None → length xs ≤ k
 at_none [] k e = omega arith
 at_none (y ∷ ys) zero e = absurd (let z : ◌≡◌ {A = ℕ} 0 1 = cc in omega arith)
 at_none (y ∷ ys) (suc k) e = let l = at_none ys k e in omega arith
 
-at_place : (xs : List ℕ) (i : ℕ) → is_in i xs ≡ true → at xs (place_in xs i) ≡ some i
+at_place : (xs : List ℕ) (i : ℕ) → is_in i xs ≡ true → at xs (place_in xs i) ≡ Some i
 at_place [] i e = absurd (both_ways false refl e)
 at_place (x ∷ xs) i e = by (eqb x i) refl (at_place xs i)
   where
-    by : (b : Bool) → eqb x i ≡ b → (is_in i xs ≡ true → at xs (place_in xs i) ≡ some i) → at (x ∷ xs) (cond b 0 (suc (place_in xs i))) ≡ some i
-    by true q r = ap some (eqb-true x i q)
+    by : (b : Bool) → eqb x i ≡ b → (is_in i xs ≡ true → at xs (place_in xs i) ≡ Some i) → at (x ∷ xs) (cond b 0 (suc (place_in xs i))) ≡ Some i
+    by true q r = ap Some (eqb-true x i q)
     by false q r = r (⊎_elim (λ p. absurd (both_ways (eqb x i) q p)) (λ p. p) (or_cases (eqb x i) (is_in i xs) e))
 
-at_left : (xs zs : List ℕ) (k x y : ℕ) → at xs k ≡ some y → at (xs ++ zs) k ≡ some x → at xs k ≡ some x
+at_left : (xs zs : List ℕ) (k x y : ℕ) → at xs k ≡ Some y → at (xs ++ zs) k ≡ Some x → at xs k ≡ Some x
 at_left [] zs k x y e q = absurd (let z : ◌≡◌ {A = ℕ} 0 1 = cc in omega arith)
 at_left (w ∷ xs) zs zero x y e q = q
 at_left (w ∷ xs) zs (suc k) x y e q = at_left xs zs k x y e q
 
-at_some : (xs : List ℕ) (k : ℕ) → k < length xs → (y : ℕ) × (at xs k ≡ some y)
+at_some : (xs : List ℕ) (k : ℕ) → k < length xs → (y : ℕ) × (at xs k ≡ Some y)
 at_some [] k lt = absurd (omega arith)
 at_some (x ∷ xs) zero lt = (x, refl)
 at_some (x ∷ xs) (suc k) lt = at_some xs k (omega arith)
 
 -- what stands at a place is among the first
-at_inside : (xs : List ℕ) (k x : ℕ) → at xs k ≡ some x → k < length xs
+at_inside : (xs : List ℕ) (k x : ℕ) → at xs k ≡ Some x → k < length xs
 at_inside [] k x e = absurd (let z : ◌≡◌ {A = ℕ} 0 1 = cc in omega arith)
 at_inside (y ∷ ys) zero x e = omega arith
 at_inside (y ∷ ys) (suc k) x e = let l = at_inside ys k x e in omega arith
@@ -101,7 +100,7 @@ module _ (t : Tables) (st : Stands t) where
 
   -- the cells at the first k places lead to cells that are brought
   abbrev Done : ℕ → List ℕ → Type 0
-  Done k xs = (q x : ℕ) → q < k → at xs q ≡ some x → (j : ℕ) → LeadsBy x (cell_at t x) j → is_in j xs ≡ true
+  Done k xs = (q x : ℕ) → q < k → at xs q ≡ Some x → (j : ℕ) → LeadsBy x (cell_at t x) j → is_in j xs ≡ true
 
   leads_on : (i j : ℕ) → p i ≡ true → LeadsBy i (cell_at t i) j → p j ≡ true
   leads_on i j e l = (reached_decided t st.0 j).1 (onward ((reached_decided t st.0 i).0 e) l)
@@ -119,8 +118,8 @@ module _ (t : Tables) (st : Stands t) where
     where
       by : (o : Option ℕ) → at xs k ≡ o → ((ys : List ℕ) → Brought t ys → Done (suc k) ys → Bringing t ys (scan g t (suc k) ys) × Done (length (scan g t (suc k) ys)) (scan g t (suc k) ys))
           → Bringing t xs (scanned (scan g t (suc k)) t xs o) × Done (length (scanned (scan g t (suc k)) t xs o)) (scanned (scan g t (suc k)) t xs o)
-      by none e rest = (record { brought = b; extends = extends_same xs }, λ q x lt f. d q x (let l = at_none xs k e in omega arith) f)
-      by (some i) e rest =
+      by None e rest = (record { brought = b; extends = extends_same xs }, λ q x lt f. d q x (let l = at_none xs k e in omega arith) f)
+      by (Some i) e rest =
           let r = b.reached i (at_in xs k i e) in
           let one = bring_from_lem xs b (first i (cell_at t i)) (many (cell_at t i)) (λ j u w. leads_on i j r (u, w)) in
           let ys = bring_from t xs (first i (cell_at t i)) (many (cell_at t i)) in
@@ -131,10 +130,10 @@ module _ (t : Tables) (st : Stands t) where
           next ys x now q w lt f j l =
               let inside : q < length xs = let a = at_inside xs k i e in omega arith in
               let old = at_some xs q inside in
-              let same = at_left xs x.0 q w old.0 old.1 (subst (λ (zs : List ℕ). at zs q ≡ some w) x.1 f) in
+              let same = at_left xs x.0 q w old.0 old.1 (subst (λ (zs : List ℕ). at zs q ≡ Some w) x.1 f) in
               ⊎_elim (λ (a : q < k). extends_in xs ys x j (d q w a same j l))
               (λ (a : k ≤ q).
-              let here-at : at xs k ≡ some w = subst (λ n. at xs n ≡ some w) (let z : q ≡ k = omega arith in z) same in
+              let here-at : at xs k ≡ Some w = subst (λ n. at xs n ≡ Some w) (let z : q ≡ k = omega arith in z) same in
               let i-is : i ≡ w = cc in
               let l' = subst (λ y. LeadsBy y (cell_at t y) j) (sym i-is) l in
               now j l'.0 l'.1)

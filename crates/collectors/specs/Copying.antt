@@ -1,7 +1,6 @@
 -- The copying collector moves whole runs of neighbouring reached cells, in the order of a breadth-first scan:
 -- registers 0 to 7, saved registers of the newest choice point first, then the moved cells. Every heap top becomes used.
-use Rattle.std.specs.Prelude.{ℕ, zero, suc, cond, List, [], ◌∷◌, ◌++◌, length}
-use Rattle.std.proofs.Math.Option.{Option, some, none}
+use Rattle.std.specs.Prelude.{ℕ, zero, suc, cond, List, [], ◌∷◌, ◌++◌, length, Option, Some, None}
 use Rattle.cells.specs.declared.cell.Cell.{Cell}
 use Rattle.tables.specs.Tables.{Tables, used, cell_at}
 use Rattle.heaps.specs.Lists.{is_in}
@@ -38,14 +37,14 @@ bring_words t order [] = order
 bring_words t order (w ∷ ws) = bring_words t (bring_from t order (first 0 w) (many w)) ws
 
 abbrev pub at : List ℕ → ℕ → Option ℕ
-at [] k = none
-at (x ∷ xs) zero = some x
+at [] k = None
+at (x ∷ xs) zero = Some x
 at (x ∷ xs) (suc k) = at xs k
 
 -- what the moved cell i leads to is brought, and the scan goes on
 abbrev pub scanned : (List ℕ → List ℕ) → Tables → List ℕ → Option ℕ → List ℕ
-scanned on t order none = order
-scanned on t order (some i) = on (bring_from t order (first i (cell_at t i)) (many (cell_at t i)))
+scanned on t order None = order
+scanned on t order (Some i) = on (bring_from t order (first i (cell_at t i)) (many (cell_at t i)))
 
 -- the moved cells are scanned from the k-th on, g of them at most
 abbrev pub scan : ℕ → Tables → ℕ → List ℕ → List ℕ

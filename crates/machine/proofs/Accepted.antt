@@ -1,6 +1,5 @@
 -- Each call that neither side refuses acts alike on both.
-use Rattle.std.proofs.Common.{◌≡◌, ℕ, ◌+◌, ◌<◌, ◌≤◌, Bool, true, false, cond, not, ◌&&◌, eqb, ltb, leb, List, [], length, refl, arith}
-use mathlib.Core.Option.{Option, some, none}
+use Rattle.std.proofs.Common.{◌≡◌, ℕ, ◌+◌, ◌<◌, ◌≤◌, Bool, true, false, cond, not, ◌&&◌, eqb, ltb, leb, List, [], length, refl, arith, Option, Some, None}
 use Rattle.std.proofs.lemmas.Bool.{not-false, and_parts, eqb-true, eqb-false, leb-false, ltb-false}
 use Rattle.cells.specs.declared.refusal.Refusal.{Refusal}
 use Rattle.cells.specs.declared.refusal.Refusal.TheVariants.{HalfMade, WrongSlip}
@@ -28,11 +27,11 @@ use Rattle.machine.proofs.StructureCalls.{put_acted, hole_acted, done_acted, voi
 use Rattle.machine.proofs.UnifyCall.{unify_acted}
 
 -- Where no test hits, each has failed.
-passed : (b : Bool) (why : Refusal) (o : Option Refusal) → cond b (some why) o ≡ none → (b ≡ false) × (o ≡ none)
+passed : (b : Bool) (why : Refusal) (o : Option Refusal) → cond b (Some why) o ≡ None → (b ≡ false) × (o ≡ None)
 passed true why o e = absurd (let z : ◌≡◌ {A = ℕ} 0 1 = cc in omega arith)
 passed false why o e = (refl, e)
 
-refused : {X : Type 0} (why : Refusal) → some why ≡ none → X
+refused : {X : Type 0} (why : Refusal) → Some why ≡ None → X
 refused why e = absurd (let z : ◌≡◌ {A = ℕ} 0 1 = cc in omega arith)
 
 -- a slip that fits says how many arguments are missing
@@ -45,7 +44,7 @@ module _ (left t : Tables) (n : ℕ) (now : Level) (saved : List Level) (r : Rel
   has_choice : eqb (length t.choices) 0 ≡ false → 0 < length t.choices
   has_choice e = let ne = eqb-false (length t.choices) 0 e in omega arith
 
-  idle_acted : (c : Call) → refusal none (length t.choices) (Store.lacks_argument t) c ≡ none → used t + cells_needed c ≤ 4096
+  idle_acted : (c : Call) → refusal None (length t.choices) (Store.lacks_argument t) c ≡ None → used t + cells_needed c ≤ 4096
       → (count : ℕ) → (is_collect c ≡ true → Shows count t left) → Acted c left (idle t) (machine n now saved)
   idle_acted (Var d) e room count law = var_acted t n now saved r (omega arith) left d
   idle_acted (SetAtom d a) e room count law = atom_acted t n now saved r left d a (not-false _ (passed (not (in_range (Atom a))) _ _ (passed (no_register d) _ _ e).1).0)
@@ -77,7 +76,7 @@ module _ (left t : Tables) (h : Half) (n : ℕ) (now : Level) (saved : List Leve
   none_missing : (slip : Draft) → wrong slip ≡ false → ltb 0 slip.missing ≡ false → h.missing ≡ 0
   none_missing slip e z = let m = missing_same (Store.draft_of t h) slip e in let le = ltb-false 0 slip.missing z in omega arith
 
-  half_acted : (c : Call) → refusal (some (Store.draft_of t h)) (length t.choices) (Store.lacks_argument t) c ≡ none → Acted c left (making t h) (maker n now saved b)
+  half_acted : (c : Call) → refusal (Some (Store.draft_of t h)) (length t.choices) (Store.lacks_argument t) c ≡ None → Acted c left (making t h) (maker n now saved b)
   half_acted (Var d) e = refused HalfMade e
   half_acted (SetAtom d a) e = refused HalfMade e
   half_acted (Int d z) e = refused HalfMade e
@@ -98,13 +97,13 @@ module _ (left t : Tables) (h : Half) (n : ℕ) (now : Level) (saved : List Leve
   half_acted Collect e = refused HalfMade e
   half_acted Usage e = (tt, r)
 
-pub accepted : (c : Call) (left : Tables) (s : State) (m : Machine) → Relates s m → Store.refusal_of c s ≡ none → used s.tables + cells_needed c ≤ 4096
+pub accepted : (c : Call) (left : Tables) (s : State) (m : Machine) → Relates s m → Store.refusal_of c s ≡ None → used s.tables + cells_needed c ≤ 4096
     → (count : ℕ) → (is_collect c ≡ true → Shows count s.tables left) → Acted c left s m
 accepted c left s m r e room count law = by s.half m.half r e
   where
-    by : (h : Option Half) (b : Option Begun) → ByHalf s.tables h m.next m.now m.saved b → Store.refusal_of c (record { tables = s.tables; half = h }) ≡ none
+    by : (h : Option Half) (b : Option Begun) → ByHalf s.tables h m.next m.now m.saved b → Store.refusal_of c (record { tables = s.tables; half = h }) ≡ None
         → Acted c left (record { tables = s.tables; half = h }) (record { next = m.next; now = m.now; saved = m.saved; half = b })
-    by none none r e = idle_acted left s.tables m.next m.now m.saved r c e room count law
-    by none (some b) r e = absurd r
-    by (some h) none r e = absurd r
-    by (some h) (some b) r e = half_acted left s.tables h m.next m.now m.saved b r c e
+    by None None r e = idle_acted left s.tables m.next m.now m.saved r c e room count law
+    by None (Some b) r e = absurd r
+    by (Some h) None r e = absurd r
+    by (Some h) (Some b) r e = half_acted left s.tables h m.next m.now m.saved b r c e

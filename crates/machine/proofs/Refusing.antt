@@ -1,7 +1,6 @@
 -- Both sides refuse the same calls, with the same refusal; and a call that is carried out never answers that cells are wanting.
-use Rattle.std.proofs.Common.{◌≡◌, ℕ, Bool, false, length, refl, ap, ◌∙◌, ap₂}
+use Rattle.std.proofs.Common.{◌≡◌, ℕ, Bool, false, length, refl, ap, ◌∙◌, ap₂, Option, Some, None}
 use mathlib.Core.Path.{fun_ext}
-use mathlib.Core.Option.{Option, some, none}
 use Rattle.cells.specs.declared.refusal.Refusal.{Refusal}
 use Rattle.tables.specs.Tables.{Tables, register}
 use Rattle.calls.specs.declared.Draft.{Draft}
@@ -21,7 +20,7 @@ use Rattle.machine.proofs.ArgumentCalls.{lacks_same}
 use Rattle.machine.proofs.HalfMade.{drafts_same}
 
 -- While a structure is half made, no test looks for an argument.
-half_lacks : (d : Draft) (points : ℕ) (f g : ℕ → ℕ → Bool) (c : Call) → refusal (some d) points f c ≡ refusal (some d) points g c
+half_lacks : (d : Draft) (points : ℕ) (f g : ℕ → ℕ → Bool) (c : Call) → refusal (Some d) points f c ≡ refusal (Some d) points g c
 half_lacks e points f g (Var d) = refl
 half_lacks e points f g (SetAtom d a) = refl
 half_lacks e points f g (Int d z) = refl
@@ -51,25 +50,25 @@ refusals_same c s m r = by s.half m.half r
   where
     by : (h : Option Half) (b : Option Begun) → ByHalf s.tables h m.next m.now m.saved b
         → Store.refusal_of c (record { tables = s.tables; half = h }) ≡ tree_refusal c (record { next = m.next; now = m.now; saved = m.saved; half = b })
-    by none none r = ap₂ (λ (points : ℕ) (lacks : ℕ → ℕ → Bool). refusal none points lacks c) r.older.points
+    by None None r = ap₂ (λ (points : ℕ) (lacks : ℕ → ℕ → Bool). refusal None points lacks c) r.older.points
         (fun_ext (λ (x : ℕ). fun_ext (λ (i : ℕ). lacks_same s.tables m.next m.now m.saved r x i)))
-    by none (some b) r = absurd r
-    by (some h) none r = absurd r
-    by (some h) (some b) r = half_lacks (Store.draft_of s.tables h) (length s.tables.choices) (Store.lacks_argument s.tables) (Tree.lacks_argument m) c ∙ ap₂ (λ (d : Draft) (points : ℕ). refusal (some d) points (Tree.lacks_argument m) c)
+    by None (Some b) r = absurd r
+    by (Some h) None r = absurd r
+    by (Some h) (Some b) r = half_lacks (Store.draft_of s.tables h) (length s.tables.choices) (Store.lacks_argument s.tables) (Tree.lacks_argument m) c ∙ ap₂ (λ (d : Draft) (points : ℕ). refusal (Some d) points (Tree.lacks_argument m) c)
         (drafts_same s.tables h m.next m.now m.saved b r) (ap (λ (x : Tables). length x.choices) r.structure ∙ r.related.older.points)
 
 half_plain : (s : State) (o : Option Half) (f : Half → Answer × State) → ((h : Half) → is_want (f h).0 ≡ false)
-    → is_want (elim o as (λ x. Answer × State) [ none ↦ (Nothing, s) | some h ↦ f h ]).0 ≡ false
-half_plain s none f p = refl
-half_plain s (some h) f p = p h
+    → is_want (elim o as (λ x. Answer × State) [ None ↦ (Nothing, s) | Some h ↦ f h ]).0 ≡ false
+half_plain s None f p = refl
+half_plain s (Some h) f p = p h
 
 argument_plain : (s : State) (d : ℕ) (o : Option ℕ) → is_want (Store.set_argument s d o).0 ≡ false
-argument_plain s d none = refl
-argument_plain s d (some n) = refl
+argument_plain s d None = refl
+argument_plain s d (Some n) = refl
 
 unified_plain : (s : State) (o : Option Tables) → is_want (Store.if_unified s o).0 ≡ false
-unified_plain s none = refl
-unified_plain s (some t) = refl
+unified_plain s None = refl
+unified_plain s (Some t) = refl
 
 pub act_plain : (c : Call) (left : Tables) (s : State) → is_want (Store.act c left s).0 ≡ false
 act_plain (Var d) left s = refl

@@ -1,7 +1,6 @@
 -- When a store's state and the machine agree, level by level: each level's registers, and in the present the arguments of
 -- a half-made structure too, spell the machine's terms with their values put in, up to a one-to-one renaming of that level.
-use Rattle.std.proofs.Common.{◌≡◌, ℕ, suc, ◌+◌, ◌<◌, ◌≤◌, true, List, [], ◌++◌, length, get_or, replicate, sym, refl, ap, ◌∙◌, subst, arith}
-use mathlib.Core.Option.{Option, some, none}
+use Rattle.std.proofs.Common.{◌≡◌, ℕ, suc, ◌+◌, ◌<◌, ◌≤◌, true, List, [], ◌++◌, length, get_or, replicate, sym, refl, ap, ◌∙◌, subst, arith, Option, Some, None}
 use Rattle.cells.specs.declared.cell.Cell.{Cell}
 use Rattle.cells.specs.declared.cell.Cell.TheVariants.{Functor, Atom}
 use Rattle.cells.specs.Cells.{in_range}
@@ -65,10 +64,10 @@ pub record HalfRelated (t : Tables) (h : Half) (n : ℕ) (now : Level) (saved : 
   pub related : Related base written n now b.arguments saved
 
 abbrev pub ByHalf : Tables → Option Half → ℕ → Level → List Level → Option Begun → Type 0
-ByHalf t none n now saved none = Related t [] n now nil saved
-ByHalf t none n now saved (some b) = ⊥
-ByHalf t (some h) n now saved none = ⊥
-ByHalf t (some h) n now saved (some b) = HalfRelated t h n now saved b
+ByHalf t None n now saved None = Related t [] n now nil saved
+ByHalf t None n now saved (Some b) = ⊥
+ByHalf t (Some h) n now saved None = ⊥
+ByHalf t (Some h) n now saved (Some b) = HalfRelated t h n now saved b
 
 abbrev pub Relates : State → Machine → Type 0
 Relates s m = ByHalf s.tables s.half m.next m.now m.saved m.half

@@ -1,6 +1,5 @@
 -- After each collection that is carried out, the used cells are the count that its collector's meaning gives.
-use Rattle.std.proofs.Common.{◌≡◌, ℕ, ◌+◌, ◌≤◌, Bool, true, false, List, [], ◌∷◌, sym, refl, ap, ◌∙◌, subst, ap₂, arith}
-use mathlib.Core.Option.{Option, some, none}
+use Rattle.std.proofs.Common.{◌≡◌, ℕ, ◌+◌, ◌≤◌, Bool, true, false, List, [], ◌∷◌, sym, refl, ap, ◌∙◌, subst, ap₂, arith, Option, Some, None}
 use Rattle.std.proofs.lemmas.Bool.{both_ways, le-ltb}
 use Rattle.cells.specs.declared.refusal.Refusal.{Refusal}
 use Rattle.tables.specs.Tables.{Tables, used}
@@ -37,20 +36,20 @@ is_collect_lem Collect e = refl
 is_collect_lem Usage e = absurd (both_ways false refl e)
 
 -- A store that is free for a collection has no more cells in use than there are.
-room : (s : State) (m : Machine) → Relates s m → Store.refusal_of Collect s ≡ none → used s.tables ≤ 4096
+room : (s : State) (m : Machine) → Relates s m → Store.refusal_of Collect s ≡ None → used s.tables ≤ 4096
 room s m r e = by s.half m.half r e
   where
-    by : (h : Option Half) (b : Option Begun) → ByHalf s.tables h m.next m.now m.saved b → Store.refusal_of Collect (record { tables = s.tables; half = h }) ≡ none
+    by : (h : Option Half) (b : Option Begun) → ByHalf s.tables h m.next m.now m.saved b → Store.refusal_of Collect (record { tables = s.tables; half = h }) ≡ None
         → used s.tables ≤ 4096
-    by none none r e = r.stands.1.cells
-    by none (some b) r e = absurd r
-    by (some h) none r e = absurd r
-    by (some h) (some b) r e = absurd (let z : ◌≡◌ {A = ℕ} 0 1 = cc in omega arith)
+    by None None r e = r.stands.1.cells
+    by None (Some b) r e = absurd r
+    by (Some h) None r e = absurd r
+    by (Some h) (Some b) r e = absurd (let z : ◌≡◌ {A = ℕ} 0 1 = cc in omega arith)
 
-collected : (c : Call) (left : Tables) (s : State) (m : Machine) → Relates s m → is_collect c ≡ true → Store.refusal_of c s ≡ none → (Store.step c left s).1.tables ≡ left
-collected c left s m r e p = subst (λ (x : Call). Store.refusal_of x s ≡ none → (Store.step x left s).1.tables ≡ left) (sym (is_collect_lem c e)) here p
+collected : (c : Call) (left : Tables) (s : State) (m : Machine) → Relates s m → is_collect c ≡ true → Store.refusal_of c s ≡ None → (Store.step c left s).1.tables ≡ left
+collected c left s m r e p = subst (λ (x : Call). Store.refusal_of x s ≡ None → (Store.step x left s).1.tables ≡ left) (sym (is_collect_lem c e)) here p
   where
-    here : Store.refusal_of Collect s ≡ none → (Store.step Collect left s).1.tables ≡ left
+    here : Store.refusal_of Collect s ≡ None → (Store.step Collect left s).1.tables ≡ left
     here q = ap₂ (λ (o : Option Refusal) (full : Bool). (Store.unless o full s (Store.act Collect left s)).1.tables) q
         (le-ltb 4096 (used s.tables + 0) (let k = room s m r q in omega arith))
 

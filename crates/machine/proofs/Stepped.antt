@@ -1,6 +1,5 @@
 -- What agrees before an event agrees after it, and the answers compare unless cells are wanting.
-use Rattle.std.proofs.Common.{◌≡◌, ◌+◌, Bool, true, false, cond, ltb, sym, refl, subst}
-use mathlib.Core.Option.{Option, some, none}
+use Rattle.std.proofs.Common.{◌≡◌, ◌+◌, Bool, true, false, cond, ltb, sym, refl, subst, Option, Some, None}
 use Rattle.std.proofs.lemmas.Bool.{both_ways, ltb-false}
 use Rattle.cells.specs.declared.refusal.Refusal.{Refusal}
 use Rattle.tables.specs.Tables.{used}
@@ -26,7 +25,7 @@ abbrev pub Stepped : Machine → Answer × State → Answer × Machine → Type 
 Stepped m x y = Relates x.1 (cond (is_want x.0) m y.1) × (is_want x.0 ≡ false → Compared x.0 y.0)
 
 abbrev pub LawfulAt : Event → State → Type 0
-LawfulAt e s = is_collect e.call ≡ true → Store.refusal_of e.call s ≡ none → Shows (e.meaning.count s.tables) s.tables e.left
+LawfulAt e s = is_collect e.call ≡ true → Store.refusal_of e.call s ≡ None → Shows (e.meaning.count s.tables) s.tables e.left
 
 either_way : (b : Bool) (s : State) (m : Machine) → Relates s m → Relates s (cond b m m)
 either_way true s m r = r
@@ -39,8 +38,8 @@ stepped e s m r law =
   where
     by : (o : Option Refusal) (full : Bool) → Store.refusal_of e.call s ≡ o → ltb 4096 (used s.tables + cells_needed e.call) ≡ full
         → Stepped m (Store.unless o full s (Store.act e.call e.left s)) (Tree.unless o m (Tree.act e.call m))
-    by (some why) full p q = (either_way (is_want (Refused why)) s m r, λ z. refl)
-    by none true p q = (r, λ z. absurd (both_ways true z refl))
-    by none false p q =
+    by (Some why) full p q = (either_way (is_want (Refused why)) s m r, λ z. refl)
+    by None true p q = (r, λ z. absurd (both_ways true z refl))
+    by None false p q =
         let a = accepted e.call e.left s m r p (ltb-false 4096 (used s.tables + cells_needed e.call) q) (e.meaning.count s.tables) (λ c. law c p) in
         (subst (λ (b : Bool). Relates (Store.act e.call e.left s).1 (cond b m (Tree.act e.call m).1)) (sym (act_plain e.call e.left s)) a.1, λ z. a.0)

@@ -1,6 +1,5 @@
 -- Unification of terms whose variables are below a bound gives no other variable a value, and no value with another variable.
-use Rattle.std.proofs.Common.{◌≡◌, ℕ, zero, suc, ◌<◌, ◌≤◌, Bool, true, false, cond, eqb, ltb, List, [], ◌∷◌, ap, ◌∙◌, arith}
-use mathlib.Core.Option.{Option, some, none}
+use Rattle.std.proofs.Common.{◌≡◌, ℕ, zero, suc, ◌<◌, ◌≤◌, Bool, true, false, cond, eqb, ltb, List, [], ◌∷◌, ap, ◌∙◌, arith, Option, Some, None}
 use Rattle.std.proofs.lemmas.Bool.{ne_eqb}
 use Rattle.terms.specs.Terms.{Sort, Tree, Term, Terms, var, node, nil, cons, apply, occurs, only, same_label}
 use Rattle.terms.specs.Unifiers.{Subst}
@@ -33,8 +32,8 @@ GoalsBelow n [] = Unit {0}
 GoalsBelow n (g ∷ gs) = GoalBelow n g × GoalsBelow n gs
 
 abbrev pub Ends : ℕ → Subst → Option Subst → Type 0
-Ends n σ none = Unit {0}
-Ends n σ (some τ) = Within n σ τ
+Ends n σ None = Unit {0}
+Ends n σ (Some τ) = Within n σ τ
 
 abbrev NextBelow : ℕ → Subst → Next → Type 0
 NextBelow n σ (stop o) = Ends n σ o
@@ -72,17 +71,17 @@ meet_below n (var x) (var y) σ gs a b g = test (eqb x y) (ltb x y)
     test false false = bind_below n x (var y) σ gs a b g
 meet_below n (var x) (node l us) σ gs a b g = test (occurs x us)
   where
-    test : (c : Bool) → NextBelow n σ (cond c (stop none) (bind x (node l us) σ gs))
+    test : (c : Bool) → NextBelow n σ (cond c (stop None) (bind x (node l us) σ gs))
     test true = tt
     test false = bind_below n x (node l us) σ gs a b g
 meet_below n (node l ts) (var y) σ gs a b g = test (occurs y ts)
   where
-    test : (c : Bool) → NextBelow n σ (cond c (stop none) (bind y (node l ts) σ gs))
+    test : (c : Bool) → NextBelow n σ (cond c (stop None) (bind y (node l ts) σ gs))
     test true = tt
     test false = bind_below n y (node l ts) σ gs b a g
 meet_below n (node l ts) (node m us) σ gs a b g = test (same_label l m)
   where
-    test : (c : Bool) → NextBelow n σ (cond c (go σ (each ts us ∷ gs)) (stop none))
+    test : (c : Bool) → NextBelow n σ (cond c (go σ (each ts us ∷ gs)) (stop None))
     test true = (within_refl n σ, ((a, b), g))
     test false = tt
 
@@ -98,8 +97,8 @@ step_below n σ (both t u ∷ gs) g = meet_below n t u σ gs g.0.0 g.0.1 g.1
 step_below n σ (each ts us ∷ gs) g = row_below n ts us σ gs g.0.0 g.0.1 g.1
 
 ends_on : (n : ℕ) (σ τ : Subst) → Within n σ τ → (o : Option Subst) → Ends n τ o → Ends n σ o
-ends_on n σ τ w none e = tt
-ends_on n σ τ w (some ρ) e = within_trans n σ τ ρ w e
+ends_on n σ τ w None e = tt
+ends_on n σ τ w (Some ρ) e = within_trans n σ τ ρ w e
 
 solve_below : (n k : ℕ) (σ : Subst) (gs : List Goal) → GoalsBelow n gs → Ends n σ (solve k σ gs)
 solve_below n zero σ gs g = tt

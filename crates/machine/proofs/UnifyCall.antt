@@ -1,6 +1,5 @@
 -- Unification on tables and in the machine both solve the same problem up to renaming, so the call unify acts alike on both sides.
-use Rattle.std.proofs.Common.{◌≡◌, ℕ, List, [], ◌∷◌, length, sym, refl, ap, ◌∙◌, subst, ap₂, subst₂}
-use mathlib.Core.Option.{Option, some, none}
+use Rattle.std.proofs.Common.{◌≡◌, ℕ, List, [], ◌∷◌, length, sym, refl, ap, ◌∙◌, subst, ap₂, subst₂, Option, Some, None}
 use Rattle.cells.specs.declared.cell.Cell.{Cell}
 use Rattle.tables.specs.Tables.{Choice, Tables, register}
 use Rattle.terms.specs.Terms.{Term, Terms, var, nil, cons, apply, pick, row}
@@ -54,12 +53,12 @@ unify_acted t n now saved r left i j =
     by : (o : Option Tables) (x y : Option Subst) → BothBound t o x → BothUnify (spelled t) now.registers x y
         → Unified now.values (pick now.registers i) (pick now.registers j) y → Ends n now.values y
         → Compared (Store.if_unified (idle t) o).0 (Tree.if_unified (machine n now saved) y).0 × Relates (Store.if_unified (idle t) o).1 (Tree.if_unified (machine n now saved) y).1
-    by none none none p q e f = (refl, r)
-    by none none (some τ) p q e f = absurd q
-    by none (some σ) y p q e f = absurd p
-    by (some u) none y p q e f = absurd p
-    by (some u) (some σ) none p q e f = absurd q
-    by (some u) (some σ) (some τ) p q e f = (
+    by None None None p q e f = (refl, r)
+    by None None (Some τ) p q e f = absurd q
+    by None (Some σ) y p q e f = absurd p
+    by (Some u) None y p q e f = absurd p
+    by (Some u) (Some σ) None p q e f = absurd q
+    by (Some u) (Some σ) (Some τ) p q e f = (
       refl,
       record {
         stands = p.stands;

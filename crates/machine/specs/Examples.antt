@@ -1,6 +1,5 @@
 -- The worked examples, as one list of equations on the definitions.
-use Rattle.std.specs.Prelude.{◌≡◌, ℕ, List, [], ◌∷◌, replicate, pos, negsuc, Ok, Err}
-use Rattle.std.proofs.Math.Option.{none}
+use Rattle.std.specs.Prelude.{◌≡◌, ℕ, List, [], ◌∷◌, replicate, pos, negsuc, Ok, Err, None}
 use Rattle.cells.specs.declared.cell.Cell.TheVariants.{Functor, Atom, Integer}
 use Rattle.cells.specs.declared.refusal.Refusal.TheVariants.{WrongSlip, NoRegister, OutOfRange, WrongCount, NoCells}
 use Rattle.cells.specs.declared.answer.Verdict.TheVariants.{No}
@@ -24,7 +23,7 @@ after [] s = s
 after (c ∷ cs) s = after cs (step c s.tables s).1
 
 abbrev pub from_set_up : List Call → State
-from_set_up cs = after cs (record { tables = set_up; half = none })
+from_set_up cs = after cs (record { tables = set_up; half = None })
 
 abbrev pub answer_to : Call → State → Answer
 answer_to c s = (step c s.tables s).0
@@ -42,7 +41,7 @@ half_made = from_set_up (Start 7 2 ∷ Hole (slip 7 2 2) ∷ [])
 
 -- so many cells in use
 abbrev pub holding : ℕ → State
-holding n = record { tables = record { heap = replicate n (Atom 0); registers = replicate 8 (Atom 0); trail = []; choices = [] }; half = none }
+holding n = record { tables = record { heap = replicate n (Atom 0); registers = replicate 8 (Atom 0); trail = []; choices = [] }; half = None }
 
 -- two variables unified, then bound to 4, without a choice point
 abbrev pub two_variables : Tables

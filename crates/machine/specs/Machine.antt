@@ -1,6 +1,5 @@
 -- The tree machine: what the calls mean on terms with numbered variables. It has no cells and never collects.
-use Rattle.std.specs.Prelude.{ℕ, zero, suc, ◌+◌, ◌-◌, Bool, true, false, cond, List, [], ◌∷◌, length, drop, replicate, nat_lt}
-use Rattle.std.proofs.Math.Option.{Option, some, none}
+use Rattle.std.specs.Prelude.{ℕ, zero, suc, ◌+◌, ◌-◌, Bool, true, false, cond, List, [], ◌∷◌, length, drop, replicate, nat_lt, Option, Some, None}
 use Rattle.cells.specs.declared.refusal.Refusal.{Refusal}
 use Rattle.cells.specs.declared.answer.Seen.{Seen}
 use Rattle.cells.specs.declared.answer.Seen.TheVariants.{Variable, Atom as SeenAtom, Integer as SeenInteger, Structure}
@@ -57,7 +56,7 @@ abbrev pub draft_of : Begun → Draft
 draft_of b = record { name = b.name; arity = b.arity; missing = b.arity - long b.arguments }
 
 abbrev pub draft : Machine → Option Draft
-draft m = elim m.half [ none ↦ none | some b ↦ some (draft_of b) ]
+draft m = elim m.half [ None ↦ None | Some b ↦ Some (draft_of b) ]
 
 abbrev pub seen_label : Label → Seen
 seen_label (named n) = SeenAtom n
@@ -70,21 +69,21 @@ seen (node l ts) = seen_label l
 
 -- argument i of a term, counted from 1
 abbrev pub argument_of : Term → ℕ → Option Term
-argument_of (var n) i = none
-argument_of (node l ts) zero = none
-argument_of (node l ts) (suc i) = cond (nat_lt i (long ts)) (some (pick ts i)) none
+argument_of (var n) i = None
+argument_of (node l ts) zero = None
+argument_of (node l ts) (suc i) = cond (nat_lt i (long ts)) (Some (pick ts i)) None
 
 abbrev pub lacks_argument : Machine → ℕ → ℕ → Bool
-lacks_argument m s i = elim (argument_of (value m s) i) [ none ↦ true | some t ↦ false ]
+lacks_argument m s i = elim (argument_of (value m s) i) [ None ↦ true | Some t ↦ false ]
 
 abbrev pub set_argument : Machine → ℕ → Option Term → Answer × Machine
-set_argument m d none = (Nothing, m)
-set_argument m d (some t) = (Nothing, set_register m d t)
+set_argument m d None = (Nothing, m)
+set_argument m d (Some t) = (Nothing, set_register m d t)
 
 -- without a unifier nothing changes
 abbrev pub if_unified : Machine → Option Subst → Answer × Machine
-if_unified m none = (Tells No, m)
-if_unified m (some σ) = (Tells Yes, with_now m (record { values = σ; registers = m.now.registers }))
+if_unified m None = (Tells No, m)
+if_unified m (Some σ) = (Tells Yes, with_now m (record { values = σ; registers = m.now.registers }))
 
 -- back to the newest saved level, which `rest` says what becomes of
 abbrev pub back : (Level → List Level → List Level) → List Level → Machine → Machine
@@ -95,13 +94,13 @@ back rest (l ∷ ls) m = record { next = m.next; now = l; saved = rest l ls; hal
 abbrev pub write : Machine → Term → ℕ → Begun → Answer × Machine
 write m t new b =
     let more : Begun = record { name = b.name; arity = b.arity; arguments = joined b.arguments (cons t nil) } in
-    (Hands (draft_of more), record { next = m.next + new; now = m.now; saved = m.saved; half = some more })
+    (Hands (draft_of more), record { next = m.next + new; now = m.now; saved = m.saved; half = Some more })
 
 abbrev pub with_half : Machine → Option Begun → Machine
 with_half m half = record { next = m.next; now = m.now; saved = m.saved; half = half }
 
 abbrev pub on_half : Machine → (Begun → Answer × Machine) → Answer × Machine
-on_half m f = elim m.half [ none ↦ (Nothing, m) | some b ↦ f b ]
+on_half m f = elim m.half [ None ↦ (Nothing, m) | Some b ↦ f b ]
 
 -- An accepted call. Collect and usage do nothing; what usage answers is not compared.
 abbrev pub act : Call → Machine → Answer × Machine
@@ -119,17 +118,17 @@ act Last m = (Nothing, back (λ l ls. ls) m.saved m)
 act (Cut k) m = (Nothing, record { next = m.next; now = m.now; saved = drop (length m.saved - k) m.saved; half = m.half })
 act (Start name arity) m =
     let b : Begun = record { name = name; arity = arity; arguments = nil } in
-    (Hands (draft_of b), with_half m (some b))
+    (Hands (draft_of b), with_half m (Some b))
 act (Put slip s) m = on_half m (write m (register m s) 0)
 act (Hole slip) m = on_half m (write m (var m.next) 1)
-act (Done slip d) m = on_half m (λ b. (Nothing, set_register (with_half m none) d (node (functor b.name b.arity) b.arguments)))
-act (Void slip) m = on_half m (λ b. (Nothing, with_half m none))
+act (Done slip d) m = on_half m (λ b. (Nothing, set_register (with_half m None) d (node (functor b.name b.arity) b.arguments)))
+act (Void slip) m = on_half m (λ b. (Nothing, with_half m None))
 act Collect m = (Nothing, m)
 act Usage m = (Nothing, m)
 
 abbrev pub unless : Option Refusal → Machine → Answer × Machine → Answer × Machine
-unless none m r = r
-unless (some why) m r = (Refused why, m)
+unless None m r = r
+unless (Some why) m r = (Refused why, m)
 
 abbrev pub step : Call → Machine → Answer × Machine
 step c m = unless (refusal (draft m) (length m.saved) (lacks_argument m) c) m (act c m)
@@ -144,8 +143,8 @@ levels [] t = []
 levels (c ∷ cs) t = level_of (last t) ∷ levels cs (last t)
 
 abbrev pub loaded : Tables → Machine
-loaded t = record { next = used t; now = level_of t; saved = levels t.choices t; half = none }
+loaded t = record { next = used t; now = level_of t; saved = levels t.choices t; half = None }
 
 -- atom 0 in each register, next number 0, and nothing else
 abbrev pub set_up_machine : Machine
-set_up_machine = record { next = 0; now = record { values = var; registers = row (λ w. w) (replicate 8 (node (named 0) nil)) }; saved = []; half = none }
+set_up_machine = record { next = 0; now = record { values = var; registers = row (λ w. w) (replicate 8 (node (named 0) nil)) }; saved = []; half = None }

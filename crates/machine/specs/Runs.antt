@@ -1,7 +1,6 @@
 -- The law over runs: whatever list of calls is run, with whichever lawful collectors, every answer, slip and refusal is
 -- the tree machine's; and after each collection the used cells are the count that its collector's meaning gives.
-use Rattle.std.specs.Prelude.{◌≡◌, Bool, true, false, cond, List, [], ◌∷◌}
-use Rattle.std.proofs.Math.Option.{none}
+use Rattle.std.specs.Prelude.{◌≡◌, Bool, true, false, cond, List, [], ◌∷◌, None}
 use Rattle.cells.specs.declared.refusal.Refusal.TheVariants.{HalfMade, WrongSlip, NoRegister, OutOfRange, WrongCount, NoArgument, ChoicesFull, NoChoice, NoCells, BadShape, BadLayout, BrokenRule}
 use Rattle.tables.specs.Tables.{Tables, used, set_up}
 use Rattle.heaps.specs.Rules.{Rules, Fits}
@@ -52,7 +51,7 @@ next e s = (Store.step e.call e.left s).1
 abbrev pub Lawful : State → List Event → Type 0
 Lawful s [] = Unit {0}
 Lawful s (e ∷ es) =
-    (is_collect e.call ≡ true → Store.refusal_of e.call s ≡ none → Shows (e.meaning.count s.tables) s.tables e.left)
+    (is_collect e.call ≡ true → Store.refusal_of e.call s ≡ None → Shows (e.meaning.count s.tables) s.tables e.left)
     × Lawful (next e s) es
 
 -- a refusal for want of cells
@@ -93,7 +92,7 @@ Agree s m (e ∷ es) =
     (Compared (answer e s) (Tree.step e.call m).0 × Agree (next e s) (Tree.step e.call m).1 es)
 
 abbrev pub begin : Tables → State
-begin t = record { tables = t; half = none }
+begin t = record { tables = t; half = None }
 
 -- from any tables that keep the rules, as a loaded image gives them
 abbrev pub RunsAgree : Type 0
@@ -107,7 +106,7 @@ SetUpLoaded = Tree.loaded set_up ≡ Tree.set_up_machine
 abbrev pub Counted : State → List Event → Type 0
 Counted s [] = Unit {0}
 Counted s (e ∷ es) =
-    (is_collect e.call ≡ true → Store.refusal_of e.call s ≡ none → used (next e s).tables ≡ e.meaning.count s.tables)
+    (is_collect e.call ≡ true → Store.refusal_of e.call s ≡ None → used (next e s).tables ≡ e.meaning.count s.tables)
     × Counted (next e s) es
 
 abbrev pub RunsCounted : Type 0

@@ -1,7 +1,6 @@
 ghost use Rattle.std.specs.Prelude.{◌≡◌};
 ghost use Rattle.tables.specs.Views.{tables_of};
 ghost use Rattle.heaps.specs.LevelLaws.{Stands};
-ghost use Rattle.calls.specs.Options.{option_of};
 ghost use Rattle.calls.specs.Steps.{argument};
 
 use cells::Cell;
@@ -11,7 +10,7 @@ use tables::Memory;
 // The cell of argument i of the structure at Xs's end, counted from 1.
 pub fn argument(memory: &Memory, s: u64, i: u64) -> Option<usize>
     requires { Stands (tables_of memory.now) }
-    ensures { option_of result ≡ argument (tables_of memory.now) s i }
+    ensures { result ≡ argument (tables_of memory.now) s i }
 {
     if s > 7 {
         return None;

@@ -5,7 +5,6 @@ ghost use Rattle.tables.specs.Tables.{used};
 ghost use Rattle.tables.specs.Views.{tables_of};
 ghost use Rattle.calls.specs.Refusals.{first_hit, cells_needed, no_register, wrong_slip};
 ghost use Rattle.calls.specs.Steps.{refusal_of, draft, draft_of, lacks_argument};
-ghost use Rattle.calls.specs.Options.{option_of};
 ghost use Rattle.heaps.specs.LevelLaws.{Stands};
 ghost use Rattle.refusing.specs.States.{state_of};
 ghost use Rattle.refusing.specs.Refused.{refusal_for};
@@ -18,7 +17,7 @@ use tables::Memory;
 
 // The refusal of the first check that hits.
 fn first_hit(checks: &[(Refusal, bool)]) -> Option<Refusal>
-    ensures { option_of result ≡ first_hit checks.now }
+    ensures { result ≡ first_hit checks.now }
 {
     for (why, hit) in checks {
         if *hit {
@@ -64,7 +63,7 @@ fn unfinished(slip: Draft) -> (Refusal, bool)
 // With what a call is refused, if it is.
 pub fn refused(memory: &Memory, half: Option<Half>, call: Call) -> Option<Refusal>
     requires { Stands (tables_of memory.now) }
-    ensures { option_of result ≡ refusal_for call (state_of memory.now half) }
+    ensures { result ≡ refusal_for call (state_of memory.now half) }
 {
     match barred(memory, half, call) {
         Some(why) => Some(why),
@@ -81,7 +80,7 @@ pub fn refused(memory: &Memory, half: Option<Half>, call: Call) -> Option<Refusa
 // The checks of a call but for want of cells, in the order of the refusals' numbers.
 fn barred(memory: &Memory, half: Option<Half>, call: Call) -> Option<Refusal>
     requires { Stands (tables_of memory.now) }
-    ensures { option_of result ≡ refusal_of call (state_of memory.now half) }
+    ensures { result ≡ refusal_of call (state_of memory.now half) }
 {
     let begun = (Refusal::HalfMade, half.is_some());
     let points = memory.depth() as u64;

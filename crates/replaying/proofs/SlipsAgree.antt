@@ -1,7 +1,6 @@
 -- Every request leaves at a bench the slip of the half-made structure, and none where no structure is half made.
 -- So giving up is never refused.
-use Rattle.std.proofs.Common.{◌≡◌, ℕ, ◌+◌, ◌≤◌, Bool, true, false, cond, not, ltb, replicate, refl, ap, ◌∙◌, subst, arith}
-use mathlib.Core.Option.{Option, some, none}
+use Rattle.std.proofs.Common.{◌≡◌, ℕ, ◌+◌, ◌≤◌, Bool, true, false, cond, not, ltb, replicate, refl, ap, ◌∙◌, subst, arith, Option, Some, None}
 use Rattle.std.proofs.lemmas.Bool.{and_from, eq-eqb, le-ltb}
 use Rattle.std.proofs.lemmas.List.{get_or_at}
 use Rattle.cells.specs.declared.cell.Cell.TheVariants.{Functor, Reference}
@@ -31,20 +30,20 @@ pub agree_from : (s : State) (slip : Option Draft) → draft s ≡ slip → Agre
 agree_from s slip e = subst (λ o. same_slip (draft s) o ≡ true) e (by (draft s))
   where
     by : (o : Option Draft) → same_slip o o ≡ true
-    by none = refl
-    by (some a) = same_itself a
+    by None = refl
+    by (Some a) = same_itself a
 
 same_slip_lem : (o p : Option Draft) → same_slip o p ≡ true → o ≡ p
-same_slip_lem none none e = refl
-same_slip_lem none (some b) e = absurd (let z : ◌≡◌ {A = ℕ} 0 1 = cc in omega arith)
-same_slip_lem (some a) none e = absurd (let z : ◌≡◌ {A = ℕ} 0 1 = cc in omega arith)
-same_slip_lem (some a) (some b) e = ap (λ d. some d) (draft_same a b e)
+same_slip_lem None None e = refl
+same_slip_lem None (Some b) e = absurd (let z : ◌≡◌ {A = ℕ} 0 1 = cc in omega arith)
+same_slip_lem (Some a) None e = absurd (let z : ◌≡◌ {A = ℕ} 0 1 = cc in omega arith)
+same_slip_lem (Some a) (Some b) e = ap (λ d. Some d) (draft_same a b e)
 
 -- what holds after each refusal and of what the call makes, holds of what comes
 unless_either : (P : Answer × State → Type 0) (o : Option Refusal) (full : Bool) (s : State) (r : Answer × State) → ((why : Refusal) → P (Refused why, s)) → P r → P (unless o full s r)
-unless_either P (some why) full s r refused made = refused why
-unless_either P none true s r refused made = refused _
-unless_either P none false s r refused made = made
+unless_either P (Some why) full s r refused made = refused why
+unless_either P None true s r refused made = refused _
+unless_either P None false s r refused made = made
 
 -- the slip goes with the half-made structure after the request
 abbrev After : Request → BenchState → Type 0
@@ -61,19 +60,19 @@ call_after q c b e made =
 -- while no structure is half made
 module _ (t : Tables) where
   abbrev free : BenchState
-  free = record { state = record { tables = t; half = none }; slip = none }
+  free = record { state = record { tables = t; half = None }; slip = None }
 
-  argument_after : (d r i : ℕ) (o : Option ℕ) → draft (set_argument free.state d o).1 ≡ slip_after (Arg d r i) none (set_argument free.state d o).0
-  argument_after d r i none = refl
-  argument_after d r i (some n) = refl
+  argument_after : (d r i : ℕ) (o : Option ℕ) → draft (set_argument free.state d o).1 ≡ slip_after (Arg d r i) None (set_argument free.state d o).0
+  argument_after d r i None = refl
+  argument_after d r i (Some n) = refl
 
-  unified_after : (r u : ℕ) (o : Option Tables) → draft (if_unified free.state o).1 ≡ slip_after (Unify r u) none (if_unified free.state o).0
-  unified_after r u none = refl
-  unified_after r u (some new) = refl
+  unified_after : (r u : ℕ) (o : Option Tables) → draft (if_unified free.state o).1 ≡ slip_after (Unify r u) None (if_unified free.state o).0
+  unified_after r u None = refl
+  unified_after r u (Some new) = refl
 
-  started_after : (name arity : ℕ) → draft (act (call.Start name arity) t free.state).1 ≡ slip_after (Start name arity) none (act (call.Start name arity) t free.state).0
+  started_after : (name arity : ℕ) → draft (act (call.Start name arity) t free.state).1 ≡ slip_after (Start name arity) None (act (call.Start name arity) t free.state).0
   started_after name arity =
-      ap (λ c. some (record { name = name_of c; arity = arity_of c; missing = arity }))
+      ap (λ c. Some (record { name = name_of c; arity = arity_of c; missing = arity }))
       (get_or_at t.heap (Functor name arity) (replicate arity (cell.Atom 0)) (Reference (used t)) (used t) refl)
 
   free_after : (q : Request) → After q free
@@ -99,7 +98,7 @@ module _ (t : Tables) where
 -- while a structure is half made
 module _ (t : Tables) (h : Half) where
   abbrev made : BenchState
-  made = record { state = record { tables = t; half = some h }; slip = some (draft_of t h) }
+  made = record { state = record { tables = t; half = Some h }; slip = Some (draft_of t h) }
 
   made_after : (q : Request) → After q made
   made_after (Var d) = refl
@@ -122,8 +121,8 @@ module _ (t : Tables) (h : Half) where
   made_after Usage = call_after Usage call.Usage made refl refl
 
 either_after : (q : Request) (t : Tables) (half : Option Half) → After q (record { state = record { tables = t; half = half }; slip = draft (record { tables = t; half = half }) })
-either_after q t none = free_after t q
-either_after q t (some h) = made_after t h q
+either_after q t None = free_after t q
+either_after q t (Some h) = made_after t h q
 
 pub agree_after : (q : Request) (b : BenchState) → Agrees b.state b.slip → Agrees (performed q b).1.state (performed q b).1.slip
 agree_after q b agrees =
@@ -133,16 +132,16 @@ agree_after q b agrees =
 
 -- giving up
 
-right_slip : (o : Option Draft) (slip : Draft) → same_slip o (some slip) ≡ true → wrong_slip o slip ≡ false
-right_slip none slip e = absurd (let z : ◌≡◌ {A = ℕ} 0 1 = cc in omega arith)
-right_slip (some a) slip e = ap not e
+right_slip : (o : Option Draft) (slip : Draft) → same_slip o (Some slip) ≡ true → wrong_slip o slip ≡ false
+right_slip None slip e = absurd (let z : ◌≡◌ {A = ℕ} 0 1 = cc in omega arith)
+right_slip (Some a) slip e = ap not e
 
 void_made : (slip : Draft) (t : Tables) (half : Option Half) → (act (call.Void slip) t (record { tables = t; half = half })).0 ≡ Nothing
-void_made slip t none = refl
-void_made slip t (some h) = refl
+void_made slip t None = refl
+void_made slip t (Some h) = refl
 
-pub void_told : (s : State) (slip : Draft) → Agrees s (some slip) → used s.tables ≤ 4096 → (step (call.Void slip) s.tables s).0 ≡ Nothing
+pub void_told : (s : State) (slip : Draft) → Agrees s (Some slip) → used s.tables ≤ 4096 → (step (call.Void slip) s.tables s).0 ≡ Nothing
 void_told s slip agrees low =
-    ap (λ wrong. (unless (cond wrong (some WrongSlip) none) (ltb 4096 (used s.tables + 0)) s (act (call.Void slip) s.tables s)).0) (right_slip (draft s) slip agrees)
-    ∙ ap (λ full. (unless none full s (act (call.Void slip) s.tables s)).0) (le-ltb 4096 (used s.tables + 0) (omega arith))
+    ap (λ wrong. (unless (cond wrong (Some WrongSlip) None) (ltb 4096 (used s.tables + 0)) s (act (call.Void slip) s.tables s)).0) (right_slip (draft s) slip agrees)
+    ∙ ap (λ full. (unless None full s (act (call.Void slip) s.tables s)).0) (le-ltb 4096 (used s.tables + 0) (omega arith))
     ∙ void_made slip s.tables s.half

@@ -1,6 +1,5 @@
 -- What a request answers at a bench, and what it leaves there: the state of the store, and the slip that is held.
-use Rattle.std.specs.Prelude.{Bool, true, false, cond, Ok, Err, Result}
-use Rattle.std.proofs.Math.Option.{Option, some, none}
+use Rattle.std.specs.Prelude.{Bool, true, false, cond, Ok, Err, Result, Option, Some, None}
 use Rattle.std.specs.declared.option.Option as std
 use Rattle.tables.specs.Tables.{Tables}
 use Rattle.images.specs.declared.fault.LoadFault.{LoadFault}
@@ -28,29 +27,29 @@ abbrev pub bench_of : Store → std.Option Slip → BenchState
 bench_of store slip = record { state = state store; slip = slip_of slip }
 
 abbrev pub with_slip : Option Draft → (Draft → Call) → Option Call
-with_slip none f = none
-with_slip (some slip) f = some (f slip)
+with_slip None f = None
+with_slip (Some slip) f = Some (f slip)
 
 -- the call that a request is where such a slip is held; put, hole, done and void are none without a slip
 abbrev pub call_of : Option Draft → Request → Option Call
-call_of slip (Var d) = some (call.Var d)
-call_of slip (Atom d n) = some (call.Atom d n)
-call_of slip (Int d z) = some (call.Int d z)
-call_of slip (Move d s) = some (call.Move d s)
-call_of slip (Look s) = some (call.Look s)
-call_of slip (Arg d s i) = some (call.Arg d s i)
-call_of slip (Same s t) = some (call.Same s t)
-call_of slip (Unify s t) = some (call.Unify s t)
-call_of slip Open = some call.Open
-call_of slip Retry = some call.Retry
-call_of slip Last = some call.Last
-call_of slip (Cut k) = some (call.Cut k)
-call_of slip (Start name arity) = some (call.Start name arity)
+call_of slip (Var d) = Some (call.Var d)
+call_of slip (Atom d n) = Some (call.Atom d n)
+call_of slip (Int d z) = Some (call.Int d z)
+call_of slip (Move d s) = Some (call.Move d s)
+call_of slip (Look s) = Some (call.Look s)
+call_of slip (Arg d s i) = Some (call.Arg d s i)
+call_of slip (Same s t) = Some (call.Same s t)
+call_of slip (Unify s t) = Some (call.Unify s t)
+call_of slip Open = Some call.Open
+call_of slip Retry = Some call.Retry
+call_of slip Last = Some call.Last
+call_of slip (Cut k) = Some (call.Cut k)
+call_of slip (Start name arity) = Some (call.Start name arity)
 call_of slip (Put s) = with_slip slip (λ x. call.Put x s)
 call_of slip Hole = with_slip slip (λ x. call.Hole x)
 call_of slip (Done d) = with_slip slip (λ x. call.Done x d)
 call_of slip Void = with_slip slip (λ x. call.Void x)
-call_of slip Usage = some call.Usage
+call_of slip Usage = Some call.Usage
 
 -- done and void spend the slip
 abbrev pub spends : Request → Bool
@@ -75,19 +74,19 @@ spends Usage = false
 
 -- the slip that is held after an answer: a refusal leaves it, and start, put and hole hand one out
 abbrev pub slip_after : Request → Option Draft → Answer → Option Draft
-slip_after r slip Nothing = cond (spends r) none slip
+slip_after r slip Nothing = cond (spends r) None slip
 slip_after r slip (Refused why) = slip
 slip_after r slip (Sees x) = slip
 slip_after r slip (Tells v) = slip
-slip_after r slip (Hands x) = some x
+slip_after r slip (Hands x) = Some x
 slip_after r slip (Counts u e p) = slip
 
 abbrev pub answered_by : Request → Option Draft → Answer × State → Reply × BenchState
 answered_by r slip x = (Answered x.0, record { state = x.1; slip = slip_after r slip x.0 })
 
 abbrev pub performed_by : Request → BenchState → Option Call → Reply × BenchState
-performed_by r b none = (NoSlip, b)
-performed_by r b (some c) = answered_by r b.slip (step c b.state.tables b.state)
+performed_by r b None = (NoSlip, b)
+performed_by r b (Some c) = answered_by r b.slip (step c b.state.tables b.state)
 
 abbrev pub performed : Request → BenchState → Reply × BenchState
 performed r b = performed_by r b (call_of b.slip r)
@@ -95,5 +94,5 @@ performed r b = performed_by r b (call_of b.slip r)
 -- An image that is loaded replaces the state of the store and takes the slip away, and whether one was held is told;
 -- a fault leaves both.
 abbrev pub reloaded : Result Tables LoadFault → BenchState → Result Bool LoadFault × BenchState
-reloaded (Ok t) b = (Ok (is_some b.slip), record { state = record { tables = t; half = none }; slip = none })
+reloaded (Ok t) b = (Ok (is_some b.slip), record { state = record { tables = t; half = None }; slip = None })
 reloaded (Err fault) b = (Err fault, b)

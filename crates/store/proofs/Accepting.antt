@@ -1,6 +1,5 @@
 -- A call that no test hits is carried out; any other is refused, and changes nothing.
-use Rattle.std.proofs.Common.{◌≡◌, ℕ, ◌+◌, ◌<◌, ◌≤◌, Bool, true, false, cond, eqb, ltb, List, [], ◌∷◌, length, sym, refl, ap, ◌∙◌, arith}
-use mathlib.Core.Option.{Option, some, none}
+use Rattle.std.proofs.Common.{◌≡◌, ℕ, ◌+◌, ◌<◌, ◌≤◌, Bool, true, false, cond, eqb, ltb, List, [], ◌∷◌, length, sym, refl, ap, ◌∙◌, arith, Option, Some, None}
 use Rattle.std.proofs.lemmas.Bool.{ltb-false, le-ltb, eqb-false}
 use Rattle.cells.specs.declared.refusal.Refusal.{Refusal}
 use Rattle.cells.specs.declared.refusal.Refusal.TheVariants.{NoCells}
@@ -15,39 +14,39 @@ use Rattle.calls.proofs.KeepSteps.{Missed, Accepted}
 use Rattle.refusing.specs.Refused.{or_full, refusal_for}
 
 module _ (s : State) (r : Answer × State) where
-  unless_refused : (o : Option Refusal) (full : Bool) (why : Refusal) → or_full o full ≡ some why → unless o full s r ≡ (Refused why, s)
-  unless_refused (some w) full why e = let same : w ≡ why = cc in ap (λ (x : Refusal). (Refused x, s)) same
-  unless_refused none true why e = let same : NoCells ≡ why = cc in ap (λ (x : Refusal). (Refused x, s)) same
-  unless_refused none false why e = absurd (let z : ◌≡◌ {A = ℕ} 0 1 = cc in omega arith)
+  unless_refused : (o : Option Refusal) (full : Bool) (why : Refusal) → or_full o full ≡ Some why → unless o full s r ≡ (Refused why, s)
+  unless_refused (Some w) full why e = let same : w ≡ why = cc in ap (λ (x : Refusal). (Refused x, s)) same
+  unless_refused None true why e = let same : NoCells ≡ why = cc in ap (λ (x : Refusal). (Refused x, s)) same
+  unless_refused None false why e = absurd (let z : ◌≡◌ {A = ℕ} 0 1 = cc in omega arith)
 
-  unless_accepted : (o : Option Refusal) (full : Bool) → or_full o full ≡ none → unless o full s r ≡ r
-  unless_accepted (some w) full e = absurd (let z : ◌≡◌ {A = ℕ} 0 1 = cc in omega arith)
-  unless_accepted none true e = absurd (let z : ◌≡◌ {A = ℕ} 0 1 = cc in omega arith)
-  unless_accepted none false e = refl
+  unless_accepted : (o : Option Refusal) (full : Bool) → or_full o full ≡ None → unless o full s r ≡ r
+  unless_accepted (Some w) full e = absurd (let z : ◌≡◌ {A = ℕ} 0 1 = cc in omega arith)
+  unless_accepted None true e = absurd (let z : ◌≡◌ {A = ℕ} 0 1 = cc in omega arith)
+  unless_accepted None false e = refl
 
-pub step_refused : (c : Call) (left : Tables) (s : State) (why : Refusal) → refusal_for c s ≡ some why → step c left s ≡ (Refused why, s)
+pub step_refused : (c : Call) (left : Tables) (s : State) (why : Refusal) → refusal_for c s ≡ Some why → step c left s ≡ (Refused why, s)
 step_refused c left s why e = unless_refused s (act c left s) (refusal_of c s) (ltb 4096 (used s.tables + cells_needed c)) why e
 
-pub step_accepted : (c : Call) (left : Tables) (s : State) → refusal_for c s ≡ none → step c left s ≡ act c left s
+pub step_accepted : (c : Call) (left : Tables) (s : State) → refusal_for c s ≡ None → step c left s ≡ act c left s
 step_accepted c left s e = unless_accepted s (act c left s) (refusal_of c s) (ltb 4096 (used s.tables + cells_needed c)) e
 
-missed : (ts : List (Refusal × Bool)) → first_hit ts ≡ none → Missed ts
+missed : (ts : List (Refusal × Bool)) → first_hit ts ≡ None → Missed ts
 missed [] e = tt
 missed (x ∷ xs) e = by_test x.1 refl (missed xs)
   where
-    by_test : (b : Bool) → x.1 ≡ b → (first_hit xs ≡ none → Missed xs) → Missed (x ∷ xs)
+    by_test : (b : Bool) → x.1 ≡ b → (first_hit xs ≡ None → Missed xs) → Missed (x ∷ xs)
     by_test true h rest =
-        let hit : first_hit (x ∷ xs) ≡ some x.0 = ap (λ (v : Bool). cond v (some x.0) (first_hit xs)) h in
+        let hit : first_hit (x ∷ xs) ≡ Some x.0 = ap (λ (v : Bool). cond v (Some x.0) (first_hit xs)) h in
         absurd (let z : ◌≡◌ {A = ℕ} 0 1 = cc in omega arith)
-    by_test false h rest = (h, rest (sym (ap (λ (v : Bool). cond v (some x.0) (first_hit xs)) h) ∙ e))
+    by_test false h rest = (h, rest (sym (ap (λ (v : Bool). cond v (Some x.0) (first_hit xs)) h) ∙ e))
 
-or_full_none : (o : Option Refusal) (full : Bool) → or_full o full ≡ none → (o ≡ none) × (full ≡ false)
-or_full_none (some w) full e = absurd (let z : ◌≡◌ {A = ℕ} 0 1 = cc in omega arith)
-or_full_none none true e = absurd (let z : ◌≡◌ {A = ℕ} 0 1 = cc in omega arith)
-or_full_none none false e = (refl, refl)
+or_full_none : (o : Option Refusal) (full : Bool) → or_full o full ≡ None → (o ≡ None) × (full ≡ false)
+or_full_none (Some w) full e = absurd (let z : ◌≡◌ {A = ℕ} 0 1 = cc in omega arith)
+or_full_none None true e = absurd (let z : ◌≡◌ {A = ℕ} 0 1 = cc in omega arith)
+or_full_none None false e = (refl, refl)
 
 -- What an accepted call may rely on.
-pub accepted : (c : Call) (s : State) → none ≡ refusal_for c s → Accepted c s
+pub accepted : (c : Call) (s : State) → None ≡ refusal_for c s → Accepted c s
 accepted c s e =
     let n = used s.tables + cells_needed c in
     let h = or_full_none (refusal_of c s) (ltb 4096 n) (sym e) in
@@ -58,4 +57,4 @@ choice_there s e = omega (arith, eqb-false (length s.tables.choices) 0 e)
 
 -- Usage is never refused.
 pub step_usage : (left : Tables) (s : State) → used s.tables ≤ 4096 → step Usage left s ≡ (usage s.tables, s)
-step_usage left s h = step_accepted Usage left s (ap (λ (b : Bool). cond b (some NoCells) none) (le-ltb 4096 (used s.tables + 0) (omega arith)))
+step_usage left s h = step_accepted Usage left s (ap (λ (b : Bool). cond b (Some NoCells) None) (le-ltb 4096 (used s.tables + 0) (omega arith)))

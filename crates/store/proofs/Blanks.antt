@@ -1,6 +1,5 @@
 -- A new structure: its functor, and atom 0 in the cells of its arguments.
-use Rattle.std.proofs.Common.{◌≡◌, ℕ, ◌+◌, List, [], ◌∷◌, ◌++◌, replicate, refl, ap, ◌∙◌, ap₂}
-use mathlib.Core.Option.{some}
+use Rattle.std.proofs.Common.{◌≡◌, ℕ, ◌+◌, List, [], ◌∷◌, ◌++◌, replicate, refl, ap, ◌∙◌, ap₂, Some}
 use Rattle.std.proofs.lemmas.List.{append_assoc, length-append, length-replicate, replicate_more}
 use Rattle.cells.specs.declared.cell.Cell.{Cell}
 use Rattle.cells.specs.declared.cell.Cell.TheVariants.{Functor, Atom}
@@ -34,7 +33,7 @@ module _ (t : Tables) where
   structure_blanks name n = ap (with_heap t) (append_assoc t.heap (Functor name n ∷ []) (replicate n (Atom 0)))
 
 pub started : (s : State) (left u v : Tables) (name arity n : ℕ) → n ≡ used s.tables → v ≡ push_cell s.tables (Functor name arity) → u ≡ with_blanks v arity
-    → ◌≡◌ {A = State} (record { tables = u; half = some (record { at = n; missing = arity }) }) (act (Start name arity) left s).1
+    → ◌≡◌ {A = State} (record { tables = u; half = Some (record { at = n; missing = arity }) }) (act (Start name arity) left s).1
 started s left u v name arity n en ev eu =
-    ap₂ (λ (x : Tables) (k : ℕ). record { tables = x; half = some (record { at = k; missing = arity }) })
+    ap₂ (λ (x : Tables) (k : ℕ). record { tables = x; half = Some (record { at = k; missing = arity }) })
     (eu ∙ ap (λ (y : Tables). with_blanks y arity) ev ∙ structure_blanks s.tables name arity) en

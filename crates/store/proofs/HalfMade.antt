@@ -1,6 +1,5 @@
 -- A slip that is not refused belongs to the half-made structure; what put, hole, done and void then make of the state.
-use Rattle.std.proofs.Common.{◌≡◌, ℕ, suc, pred, ◌+◌, ◌-◌, ◌<◌, ◌≤◌, true, false, ◌&&◌, eqb, sym, ap, ◌∙◌, ap₂, arith, get_or-set_other}
-use mathlib.Core.Option.{Option, some, none}
+use Rattle.std.proofs.Common.{◌≡◌, ℕ, suc, pred, ◌+◌, ◌-◌, ◌<◌, ◌≤◌, true, false, ◌&&◌, eqb, sym, ap, ◌∙◌, ap₂, arith, get_or-set_other, Option, Some, None}
 use Rattle.std.proofs.lemmas.Bool.{not-false, and_parts, eqb-true, eqb-false}
 use Rattle.cells.specs.declared.cell.Cell.{Cell}
 use Rattle.cells.specs.declared.cell.Cell.TheVariants.{Reference, Pointer}
@@ -26,13 +25,13 @@ draft_same a b e =
 abbrev pub fewer_draft : Draft → Draft
 fewer_draft slip = record { name = slip.name; arity = slip.arity; missing = pred slip.missing }
 
-module _ (s : State) (slip : Draft) (h : Half) (is : s.half ≡ some h) (right : wrong_slip (draft s) slip ≡ false) where
+module _ (s : State) (slip : Draft) (h : Half) (is : s.half ≡ Some h) (right : wrong_slip (draft s) slip ≡ false) where
   abbrev t : Tables
   t = s.tables
 
   drafted : draft_of t h ≡ slip
   drafted =
-      let said = ap (λ (o : Option Half). wrong_slip (elim o [ none ↦ none | some k ↦ some (draft_of t k) ]) slip) is in
+      let said = ap (λ (o : Option Half). wrong_slip (elim o [ None ↦ None | Some k ↦ Some (draft_of t k) ]) slip) is in
       draft_same (draft_of t h) slip (not-false (same_draft (draft_of t h) slip) (sym said ∙ right))
 
   arity_is : arity_of (cell_at t h.at) ≡ slip.arity
@@ -75,20 +74,20 @@ module _ (s : State) (slip : Draft) (h : Half) (is : s.half ≡ some h) (right :
       let other = get_or-set_other t.heap (next_argument t h) h.at w (Reference h.at) (omega arith) in
       ap (λ (c : Cell). record { name = name_of c; arity = arity_of c; missing = pred h.missing }) other ∙ ap fewer_draft drafted
 
-  write_made : (u : Tables) (n : ℕ) (w : Cell) → n ≡ place → u ≡ set_cell t n w → (Hands (fewer_draft slip), record { tables = u; half = some rest }) ≡ write s w h
+  write_made : (u : Tables) (n : ℕ) (w : Cell) → n ≡ place → u ≡ set_cell t n w → (Hands (fewer_draft slip), record { tables = u; half = Some rest }) ≡ write s w h
   write_made u n w en eu =
-      ap₂ (λ (d : Draft) (x : Tables). (Hands d, record { tables = x; half = some rest })) (sym (draft_stays w)) (eu ∙ ap (λ k. set_cell t k w) (en ∙ place_is))
+      ap₂ (λ (d : Draft) (x : Tables). (Hands d, record { tables = x; half = Some rest })) (sym (draft_stays w)) (eu ∙ ap (λ k. set_cell t k w) (en ∙ place_is))
 
   module _ (left u : Tables) where
-    pub put_made : (r n : ℕ) (w : Cell) → n ≡ place → w ≡ register t r → u ≡ set_cell t n w → (Hands (fewer_draft slip), record { tables = u; half = some rest }) ≡ act (Put slip r) left s
+    pub put_made : (r n : ℕ) (w : Cell) → n ≡ place → w ≡ register t r → u ≡ set_cell t n w → (Hands (fewer_draft slip), record { tables = u; half = Some rest }) ≡ act (Put slip r) left s
     put_made r n w en ew eu = write_made u n w en eu ∙ ap (λ (x : Cell). write s x h) ew ∙ sym (on_half_some s h (write s (register t r)) is)
 
-    pub hole_made : (n : ℕ) → n ≡ place → u ≡ set_cell t n (Reference n) → (Hands (fewer_draft slip), record { tables = u; half = some rest }) ≡ act (Hole slip) left s
+    pub hole_made : (n : ℕ) → n ≡ place → u ≡ set_cell t n (Reference n) → (Hands (fewer_draft slip), record { tables = u; half = Some rest }) ≡ act (Hole slip) left s
     hole_made n en eu =
         write_made u n (Reference n) en eu ∙ ap (λ k. write s (Reference k) h) (en ∙ place_is) ∙ sym (on_half_some s h (λ k. write s (Reference (next_argument t k)) k) is)
 
-    pub done_made : (d : ℕ) → u ≡ set_register t d (Pointer h.at) → (Nothing, record { tables = u; half = none }) ≡ act (Done slip d) left s
-    done_made d eu = ap (λ (x : Tables). (Nothing, record { tables = x; half = none })) eu ∙ sym (on_half_some s h (λ k. (Nothing, record { tables = set_register t d (Pointer k.at); half = none })) is)
+    pub done_made : (d : ℕ) → u ≡ set_register t d (Pointer h.at) → (Nothing, record { tables = u; half = None }) ≡ act (Done slip d) left s
+    done_made d eu = ap (λ (x : Tables). (Nothing, record { tables = x; half = None })) eu ∙ sym (on_half_some s h (λ k. (Nothing, record { tables = set_register t d (Pointer k.at); half = None })) is)
 
-    pub void_made : u ≡ cut_heap t h.at → (Nothing, record { tables = u; half = none }) ≡ act (Void slip) left s
-    void_made eu = ap (λ (x : Tables). (Nothing, record { tables = x; half = none })) eu ∙ sym (on_half_some s h (λ k. (Nothing, record { tables = cut_heap t k.at; half = none })) is)
+    pub void_made : u ≡ cut_heap t h.at → (Nothing, record { tables = u; half = None }) ≡ act (Void slip) left s
+    void_made eu = ap (λ (x : Tables). (Nothing, record { tables = x; half = None })) eu ∙ sym (on_half_some s h (λ k. (Nothing, record { tables = cut_heap t k.at; half = None })) is)

@@ -1,6 +1,5 @@
 -- A store keeps what every state keeps: its tables stand, and an accepted call leaves it so.
-use Rattle.std.proofs.Common.{◌≡◌, Option, sym, subst}
-use mathlib.Core.Option.{none}
+use Rattle.std.proofs.Common.{◌≡◌, Option, sym, subst, None}
 use Rattle.tables.specs.declared.memory.Memory.{Memory}
 use Rattle.tables.specs.Views.{tables_of}
 use Rattle.heaps.specs.LevelLaws.{Stands}
@@ -23,7 +22,7 @@ whole s = whole_of (state s) s.whole
 pub stands : (s : Store) → Stands (tables_of s.memory)
 stands s = whole_tables (state s) (whole s)
 
-pub whole_after : (c : Call) (s : Store) (m : Memory) (h : Option Half) → none ≡ refusal_for c (state s) → state_of m h ≡ (act c (tables_of s.memory) (state s)).1 → ∥ Whole (state_of m h) ∥₁
+pub whole_after : (c : Call) (s : Store) (m : Memory) (h : Option Half) → None ≡ refusal_for c (state s) → state_of m h ≡ (act c (tables_of s.memory) (state s)).1 → ∥ Whole (state_of m h) ∥₁
 whole_after c s m h none-hits e =
     let t = tables_of s.memory in
     ∣ subst Whole (sym e) (act_keeps c t (state s) (whole s) (λ _. stands s) (accepted c (state s) none-hits)) ∣₁

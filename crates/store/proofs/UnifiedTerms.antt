@@ -1,6 +1,5 @@
 -- Unifying two registers in the subject's words: from what `unify_words` gives to unifiers of the terms that registers spell.
-use Rattle.std.proofs.Common.{◌≡◌, ℕ, Bool, true, false, List, get_or, Ok, sym, refl, ap, ◌∙◌, subst}
-use mathlib.Core.Option.{Option, some, none}
+use Rattle.std.proofs.Common.{◌≡◌, ℕ, Bool, true, false, List, get_or, Ok, sym, refl, ap, ◌∙◌, subst, Option, Some, None}
 use Rattle.cells.specs.declared.cell.Cell.{Cell}
 use Rattle.cells.specs.declared.cell.Cell.TheVariants.{Atom}
 use Rattle.cells.specs.declared.answer.Verdict.TheVariants.{No}
@@ -22,9 +21,9 @@ use Rattle.store.specs.Called.{agrees}
 use Rattle.store.specs.Unified.{UnifiesTerms}
 
 -- unifying leaves the words in the registers
-same_registers : (t u : Tables) (o : Option Subst) → BothBound t (some u) o → u.registers ≡ t.registers
-same_registers t u none b = absurd b
-same_registers t u (some σ) b = b.registers
+same_registers : (t u : Tables) (o : Option Subst) → BothBound t (Some u) o → u.registers ≡ t.registers
+same_registers t u None b = absurd b
+same_registers t u (Some σ) b = b.registers
 
 pub unifies_terms : (t u : Tables) (a b : ℕ) (answer : Bool) → Stands t → Unified t (register t a) (register t b) u answer → UnifiesTerms t a b (Ok answer) u
 unifies_terms t u a b true st done =

@@ -1,6 +1,5 @@
 -- Each step of unification makes the goals smaller, or takes a variable out of them and at most squares their size.
-use Rattle.std.proofs.Common.{◌≡◌, ℕ, suc, ◌+◌, ◌*◌, ◌<◌, ◌≤◌, Bool, true, false, cond, ◌||◌, eqb, ltb, ◌⊎◌, List, [], ◌∷◌, refl, inl, inr, mul-le-mul, arith}
-use mathlib.Core.Option.{none}
+use Rattle.std.proofs.Common.{◌≡◌, ℕ, suc, ◌+◌, ◌*◌, ◌<◌, ◌≤◌, Bool, true, false, cond, ◌||◌, eqb, ltb, ◌⊎◌, List, [], ◌∷◌, refl, inl, inr, mul-le-mul, arith, None}
 use Rattle.std.proofs.lemmas.Bool.{eq-eqb, or_cases, or_from, or_left, or_right}
 use Rattle.terms.specs.Terms.{Sort, Tree, Term, Terms, var, node, nil, cons, apply, occurs, size, only, same_label}
 use Rattle.terms.specs.Unifiers.{Subst}
@@ -130,17 +129,17 @@ meet_falls (var x) (var y) σ gs = test (eqb x y) (ltb x y) refl
     test false false e = falls_left σ x (var y) gs (ne_occurs x y e)
 meet_falls (var x) (node l us) σ gs = test (occurs x us) refl
   where
-    test : (b : Bool) → occurs x us ≡ b → Falls (both (var x) (node l us) ∷ gs) (cond b (stop none) (bind x (node l us) σ gs))
+    test : (b : Bool) → occurs x us ≡ b → Falls (both (var x) (node l us) ∷ gs) (cond b (stop None) (bind x (node l us) σ gs))
     test true e = tt
     test false e = falls_left σ x (node l us) gs e
 meet_falls (node l ts) (var y) σ gs = test (occurs y ts) refl
   where
-    test : (b : Bool) → occurs y ts ≡ b → Falls (both (node l ts) (var y) ∷ gs) (cond b (stop none) (bind y (node l ts) σ gs))
+    test : (b : Bool) → occurs y ts ≡ b → Falls (both (node l ts) (var y) ∷ gs) (cond b (stop None) (bind y (node l ts) σ gs))
     test true e = tt
     test false e = falls_right σ y (node l ts) gs e
 meet_falls (node l ts) (node m us) σ gs = test (same_label l m)
   where
-    test : (b : Bool) → Falls (both (node l ts) (node m us) ∷ gs) (cond b (go σ (each ts us ∷ gs)) (stop none))
+    test : (b : Bool) → Falls (both (node l ts) (node m us) ∷ gs) (cond b (go σ (each ts us ∷ gs)) (stop None))
     test true = inl (record { less = omega arith; kept = λ z h. h })
     test false = tt
 

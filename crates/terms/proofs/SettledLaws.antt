@@ -1,6 +1,5 @@
 -- Each step of unification leaves its values idempotent, and its goals free of variables that have a value.
-use Rattle.std.proofs.Common.{◌≡◌, ℕ, Bool, true, false, cond, eqb, ltb, List, [], ◌∷◌, sym, refl, ap, ◌∙◌, ap₂}
-use mathlib.Core.Option.{some, none}
+use Rattle.std.proofs.Common.{◌≡◌, ℕ, Bool, true, false, cond, eqb, ltb, List, [], ◌∷◌, sym, refl, ap, ◌∙◌, ap₂, Some, None}
 use Rattle.terms.specs.Terms.{Term, Terms, var, node, nil, cons, apply, occurs, only, same_label}
 use Rattle.terms.specs.Unifiers.{Subst, compose, Idempotent}
 use Rattle.terms.specs.Robinson.{Goal, both, each, apply_goals, Next, stop, go, bind, meet, meet_row, step}
@@ -11,8 +10,8 @@ abbrev pub Settled : Subst → List Goal → Type 0
 Settled σ gs = Idempotent σ × (apply_goals σ gs ≡ gs)
 
 abbrev pub SettledAt : Next → Type 0
-SettledAt (stop none) = Unit {0}
-SettledAt (stop (some τ)) = Idempotent τ
+SettledAt (stop None) = Unit {0}
+SettledAt (stop (Some τ)) = Idempotent τ
 SettledAt (go τ hs) = Settled τ hs
 
 pub settled_left : (σ : Subst) (t u : Term) (gs : List Goal) → Settled σ (both t u ∷ gs) → apply σ t ≡ t
@@ -62,12 +61,12 @@ meet_settled (var x) (var y) σ gs s = test (eqb x y) (ltb x y) refl
     test false false e = bind_left σ x (var y) gs s (ne_occurs x y e)
 meet_settled (var x) (node l us) σ gs s = test (occurs x us) refl
   where
-    test : (b : Bool) → occurs x us ≡ b → SettledAt (cond b (stop none) (bind x (node l us) σ gs))
+    test : (b : Bool) → occurs x us ≡ b → SettledAt (cond b (stop None) (bind x (node l us) σ gs))
     test true e = tt
     test false e = bind_left σ x (node l us) gs s e
 meet_settled (node l ts) (var y) σ gs s = test (occurs y ts) refl
   where
-    test : (b : Bool) → occurs y ts ≡ b → SettledAt (cond b (stop none) (bind y (node l ts) σ gs))
+    test : (b : Bool) → occurs y ts ≡ b → SettledAt (cond b (stop None) (bind y (node l ts) σ gs))
     test true e = tt
     test false e = bind_right σ y (node l ts) gs s e
 meet_settled (node l ts) (node m us) σ gs s = test (same_label l m)
@@ -75,7 +74,7 @@ meet_settled (node l ts) (node m us) σ gs s = test (same_label l m)
     inside : apply_goals σ (each ts us ∷ gs) ≡ each ts us ∷ gs
     inside = cc s.1
 
-    test : (b : Bool) → SettledAt (cond b (go σ (each ts us ∷ gs)) (stop none))
+    test : (b : Bool) → SettledAt (cond b (go σ (each ts us ∷ gs)) (stop None))
     test true = (s.0, inside)
     test false = tt
 

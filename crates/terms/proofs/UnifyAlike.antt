@@ -1,6 +1,5 @@
 -- Rows that are alike stay alike when the same two places are unified in both.
-use Rattle.std.proofs.Common.{◌≡◌, ℕ, sym, ap, ◌∙◌}
-use mathlib.Core.Option.{Option, some, none}
+use Rattle.std.proofs.Common.{◌≡◌, ℕ, sym, ap, ◌∙◌, Option, Some, None}
 use Rattle.terms.specs.Terms.{Sort, Tree, Term, Terms, var, apply, pick}
 use Rattle.terms.specs.Renamings.{rename, Alike}
 use Rattle.terms.specs.Unifiers.{Subst, Absorbs, Idempotent, Unifier}
@@ -35,7 +34,7 @@ module _ (σ τ : Subst) (iσ : Idempotent σ) (ts us : Terms) (alike : Alike (a
       unifying = place i ∙ e ∙ sym (place j)
 
   -- What unification makes of us is an instance of what it makes of ts.
-  instance_of : (σ' τ' : Subst) → Unified σ (pick ts i) (pick ts j) (some σ') → Unified τ (pick us i) (pick us j) (some τ') → Instance (apply σ' ts) (apply τ' us)
+  instance_of : (σ' τ' : Subst) → Unified σ (pick ts i) (pick ts j) (Some σ') → Unified τ (pick us i) (pick us j) (Some τ') → Instance (apply σ' ts) (apply τ' us)
   instance_of σ' τ' p q =
       let b = (q.1 τ').1 q.0 in
       let c = carried τ' b.0 b.1 in
@@ -43,10 +42,10 @@ module _ (σ τ : Subst) (iσ : Idempotent σ) (ts us : Terms) (alike : Alike (a
 
 pub unify_alike : (σ τ : Subst) → Idempotent σ → Idempotent τ → (ts us : Terms) → Alike (apply σ ts) (apply τ us) → (i j : ℕ)
     → (p q : Option Subst) → Unified σ (pick ts i) (pick ts j) p → Unified τ (pick us i) (pick us j) q → BothUnify ts us p q
-unify_alike σ τ a b ts us e i j none none f g = tt
-unify_alike σ τ a b ts us e i j none (some τ') f g = let r = (g.1 τ').1 g.0 in let c = carried σ τ a ts us e i j τ' r.0 r.1 in f c.0 c.1 c.2
-unify_alike σ τ a b ts us e i j (some σ') none f g = let r = (f.1 σ').1 f.0 in let c = carried τ σ b us ts (alike_sym e) i j σ' r.0 r.1 in g c.0 c.1 c.2
-unify_alike σ τ a b ts us e i j (some σ') (some τ') f g = alike_instances (instance_of σ τ a ts us e i j σ' τ' f g) (instance_of τ σ b us ts (alike_sym e) i j τ' σ' g f)
+unify_alike σ τ a b ts us e i j None None f g = tt
+unify_alike σ τ a b ts us e i j None (Some τ') f g = let r = (g.1 τ').1 g.0 in let c = carried σ τ a ts us e i j τ' r.0 r.1 in f c.0 c.1 c.2
+unify_alike σ τ a b ts us e i j (Some σ') None f g = let r = (f.1 σ').1 f.0 in let c = carried τ σ b us ts (alike_sym e) i j σ' r.0 r.1 in g c.0 c.1 c.2
+unify_alike σ τ a b ts us e i j (Some σ') (Some τ') f g = alike_instances (instance_of σ τ a ts us e i j σ' τ' f g) (instance_of τ σ b us ts (alike_sym e) i j τ' σ' g f)
 
 pub alike_unify : AlikeUnify
 alike_unify σ τ a b ts us e i j = unify_alike σ τ a b ts us e i j _ _ (unify_exact σ (pick ts i) (pick ts j) a) (unify_exact τ (pick us i) (pick us j) b)

@@ -1,6 +1,5 @@
 -- Each step of unification keeps exactly the substitutions that fit: those that extend the values and solve the goals.
-use Rattle.std.proofs.Common.{◌≡◌, ℕ, Bool, true, false, cond, eqb, ltb, ◌↔◌, List, [], ◌∷◌, sym, refl, ap, ◌∙◌, ap₂}
-use mathlib.Core.Option.{some, none}
+use Rattle.std.proofs.Common.{◌≡◌, ℕ, Bool, true, false, cond, eqb, ltb, ◌↔◌, List, [], ◌∷◌, sym, refl, ap, ◌∙◌, ap₂, Some, None}
 use Rattle.std.proofs.lemmas.Bool.{true≢false, eqb-true}
 use Rattle.terms.specs.Terms.{Sort, Tree, Term, Terms, var, node, nil, cons, apply, occurs, only, same_label}
 use Rattle.terms.specs.Unifiers.{Subst, compose, Absorbs}
@@ -23,8 +22,8 @@ Fits θ σ gs = Absorbs θ σ × Solves θ gs
 
 -- What fits before a step is what fits after it.
 abbrev pub Exact : Subst → List Goal → Next → Type 0
-Exact σ gs (stop none) = (θ : Subst) → Fits θ σ gs → ⊥
-Exact σ gs (stop (some τ)) = (θ : Subst) → Fits θ σ gs ↔ Absorbs θ τ
+Exact σ gs (stop None) = (θ : Subst) → Fits θ σ gs → ⊥
+Exact σ gs (stop (Some τ)) = (θ : Subst) → Fits θ σ gs ↔ Absorbs θ τ
 Exact σ gs (go τ hs) = (θ : Subst) → Fits θ σ gs ↔ Fits θ τ hs
 
 -- Binding x to t, for substitutions that make the same of x and t.
@@ -67,17 +66,17 @@ meet_exact (var x) (var y) σ gs s = test (eqb x y) refl
     test false e = order (ltb x y)
 meet_exact (var x) (node l us) σ gs s = test (occurs x us) refl
   where
-    test : (b : Bool) → occurs x us ≡ b → Exact σ (both (var x) (node l us) ∷ gs) (cond b (stop none) (bind x (node l us) σ gs))
+    test : (b : Bool) → occurs x us ≡ b → Exact σ (both (var x) (node l us) ∷ gs) (cond b (stop None) (bind x (node l us) σ gs))
     test true e = λ θ f. no_loop x θ l us e f.1.0
     test false e = bind_exact σ x (node l us) gs (settled_left σ (var x) (node l us) gs s)
 meet_exact (node l ts) (var y) σ gs s = test (occurs y ts) refl
   where
-    test : (b : Bool) → occurs y ts ≡ b → Exact σ (both (node l ts) (var y) ∷ gs) (cond b (stop none) (bind y (node l ts) σ gs))
+    test : (b : Bool) → occurs y ts ≡ b → Exact σ (both (node l ts) (var y) ∷ gs) (cond b (stop None) (bind y (node l ts) σ gs))
     test true e = λ θ f. no_loop y θ l ts e (sym f.1.0)
     test false e = bind_turned σ y (node l ts) gs (settled_right σ (node l ts) (var y) gs s)
 meet_exact (node l ts) (node m us) σ gs s = test (same_label l m) refl
   where
-    test : (b : Bool) → same_label l m ≡ b → Exact σ (both (node l ts) (node m us) ∷ gs) (cond b (go σ (each ts us ∷ gs)) (stop none))
+    test : (b : Bool) → same_label l m ≡ b → Exact σ (both (node l ts) (node m us) ∷ gs) (cond b (go σ (each ts us ∷ gs)) (stop None))
     test true e = λ θ. (λ f. (f.0, (cc f.1.0, f.1.1)), λ f. (f.0, (ap₂ node (same_label_true l m e) f.1.0, f.1.1)))
     test false e = λ θ f. same_label_false l m e (cc f.1.0)
 

@@ -1,7 +1,7 @@
 -- Over values, unification does what it does on the terms as they stand under these values, and gives the values under the unifier found.
-use Rattle.std.proofs.Common.{◌≡◌, ℕ, zero, suc, ◌+◌, Bool, true, false, cond, eqb, ltb, List, [], ◌∷◌, sym, refl, ap, ◌∙◌}
+use Rattle.std.proofs.Common.{◌≡◌, ℕ, zero, suc, ◌+◌, Bool, true, false, cond, eqb, ltb, List, [], ◌∷◌, sym, refl, ap, ◌∙◌, Option, None}
 use mathlib.Core.Path.{fun_ext}
-use mathlib.Core.Option.{Option, none, map}
+use Rattle.std.specs.Option.{option_map}
 use Rattle.terms.specs.Terms.{Term, Terms, var, node, nil, cons, apply, occurs, size, only, same_label}
 use Rattle.terms.specs.Unifiers.{Subst, compose}
 use Rattle.terms.specs.Robinson.{Goal, both, each, apply_goals, Next, stop, go, bind, meet, meet_row, step, after, solve, enough, unify, variables}
@@ -9,7 +9,7 @@ use Rattle.terms.proofs.TermLaws.{apply_var, apply_apply}
 
 -- The values of σ under those of an answer, and under those of a step.
 abbrev pub following : Subst → Option Subst → Option Subst
-following σ = map (compose σ)
+following σ = option_map (compose σ)
 
 abbrev later : Subst → Next → Next
 later σ (stop o) = stop (following σ o)
@@ -28,17 +28,17 @@ meet_later (var x) (var y) σ τ gs = test (eqb x y) (ltb x y)
     test false false = bind_later σ τ x (var y) gs
 meet_later (var x) (node l us) σ τ gs = test (occurs x us)
   where
-    test : (b : Bool) → cond b (stop none) (bind x (node l us) (compose σ τ) gs) ≡ later σ (cond b (stop none) (bind x (node l us) τ gs))
+    test : (b : Bool) → cond b (stop None) (bind x (node l us) (compose σ τ) gs) ≡ later σ (cond b (stop None) (bind x (node l us) τ gs))
     test true = refl
     test false = bind_later σ τ x (node l us) gs
 meet_later (node l ts) (var y) σ τ gs = test (occurs y ts)
   where
-    test : (b : Bool) → cond b (stop none) (bind y (node l ts) (compose σ τ) gs) ≡ later σ (cond b (stop none) (bind y (node l ts) τ gs))
+    test : (b : Bool) → cond b (stop None) (bind y (node l ts) (compose σ τ) gs) ≡ later σ (cond b (stop None) (bind y (node l ts) τ gs))
     test true = refl
     test false = bind_later σ τ y (node l ts) gs
 meet_later (node l ts) (node m us) σ τ gs = test (same_label l m)
   where
-    test : (b : Bool) → cond b (go (compose σ τ) (each ts us ∷ gs)) (stop none) ≡ later σ (cond b (go τ (each ts us ∷ gs)) (stop none))
+    test : (b : Bool) → cond b (go (compose σ τ) (each ts us ∷ gs)) (stop None) ≡ later σ (cond b (go τ (each ts us ∷ gs)) (stop None))
     test true = refl
     test false = refl
 

@@ -1,7 +1,6 @@
 -- Robinson's unification: goals are met from left to right, with the occurs check.
 -- Of two variables the higher is bound to the lower.
-use Rattle.std.specs.Prelude.{ℕ, zero, suc, ◌+◌, ◌*◌, cond, List, [], ◌∷◌, ◌==◌, nat_lt}
-use Rattle.std.proofs.Math.Option.{Option, some, none}
+use Rattle.std.specs.Prelude.{ℕ, zero, suc, ◌+◌, ◌*◌, cond, List, [], ◌∷◌, ◌==◌, nat_lt, Option, Some, None}
 use Rattle.terms.specs.Terms.{Sort, Tree, Term, Terms, var, node, nil, cons, apply, occurs, size, only, same_label}
 use Rattle.terms.specs.Unifiers.{Subst, compose}
 
@@ -29,18 +28,18 @@ bind x t σ gs = go (compose σ (only x t)) (apply_goals (only x t) gs)
 
 abbrev pub meet : Term → Term → Subst → List Goal → Next
 meet (var x) (var y) σ gs = cond (x == y) (go σ gs) (cond (nat_lt x y) (bind y (var x) σ gs) (bind x (var y) σ gs))
-meet (var x) (node l us) σ gs = cond (occurs x us) (stop none) (bind x (node l us) σ gs)
-meet (node l ts) (var y) σ gs = cond (occurs y ts) (stop none) (bind y (node l ts) σ gs)
-meet (node l ts) (node m us) σ gs = cond (same_label l m) (go σ (each ts us ∷ gs)) (stop none)
+meet (var x) (node l us) σ gs = cond (occurs x us) (stop None) (bind x (node l us) σ gs)
+meet (node l ts) (var y) σ gs = cond (occurs y ts) (stop None) (bind y (node l ts) σ gs)
+meet (node l ts) (node m us) σ gs = cond (same_label l m) (go σ (each ts us ∷ gs)) (stop None)
 
 abbrev pub meet_row : Terms → Terms → Subst → List Goal → Next
 meet_row nil nil σ gs = go σ gs
-meet_row nil (cons u us) σ gs = stop none
-meet_row (cons t ts) nil σ gs = stop none
+meet_row nil (cons u us) σ gs = stop None
+meet_row (cons t ts) nil σ gs = stop None
 meet_row (cons t ts) (cons u us) σ gs = go σ (both t u ∷ each ts us ∷ gs)
 
 abbrev pub step : Subst → List Goal → Next
-step σ [] = stop (some σ)
+step σ [] = stop (Some σ)
 step σ (both t u ∷ gs) = meet t u σ gs
 step σ (each ts us ∷ gs) = meet_row ts us σ gs
 
@@ -50,7 +49,7 @@ after r (go σ gs) = r σ gs
 
 -- At most so many steps; the answer none where they do not suffice.
 abbrev pub solve : ℕ → Subst → List Goal → Option Subst
-solve zero σ gs = none
+solve zero σ gs = None
 solve (suc k) σ gs = after (solve k) (step σ gs)
 
 -- How often variables occur.

@@ -1,8 +1,7 @@
 -- Where unifying with merges comes to tables u, all pairs that it was given spell the same in u.
 -- Structures that were set equal have arguments that were set equal in their turn, and terms are finite:
 -- by induction on n, merged structures of which one spells a term smaller than n spell the same term.
-use Rattle.std.proofs.Common.{◌≡◌, ℕ, zero, suc, ◌<◌, true, ◌⊎◌, List, [], ◌∷◌, sym, refl, ap, ◌∙◌, subst, ap₂, subst₂, inl, inr, ⊎_elim, arith}
-use mathlib.Core.Option.{Option, some, none}
+use Rattle.std.proofs.Common.{◌≡◌, ℕ, zero, suc, ◌<◌, true, ◌⊎◌, List, [], ◌∷◌, sym, refl, ap, ◌∙◌, subst, ap₂, subst₂, inl, inr, ⊎_elim, arith, Option, Some, None}
 use Rattle.std.proofs.lemmas.Bool.{eqb-true, eq-eqb}
 use Rattle.cells.specs.declared.cell.Cell.{Cell}
 use Rattle.cells.specs.declared.cell.Cell.TheVariants.{Reference, Pointer}
@@ -103,7 +102,7 @@ module _ (u : Tables) where
   rest_near n ps _ behind e = e
   rest_near n ps _ behind_row e = e.1
 
-  run_done : {t : Tables} {merges : List Merge} {ps : List Pair} {r : Option Tables} (w : MemoRun t merges ps r) → r ≡ some u → Stands t → Each (PairKeeps t) ps → Done w
+  run_done : {t : Tables} {merges : List Merge} {ps : List Pair} {r : Option Tables} (w : MemoRun t merges ps r) → r ≡ Some u → Stands t → Each (PairKeeps t) ps → Done w
   run_done (finished {t = t}) e st v = let q : t ≡ u = cc e in record {
     solution = subst (λ (x : Tables). Solution t (spell x.heap)) q (solution_self t);
     pairs = λ n h. tt;
@@ -144,7 +143,7 @@ module _ (u : Tables) where
           (near_node n (label_of (cell_at t p)) (run S (suc p) (arity_of (cell_at t p))) (run S (suc q) (arity_of (cell_at t p))) (d.pairs n h).0)
   run_done (clashed p q ea eb c l) e st v = absurd (let z : ◌≡◌ {A = ℕ} 0 1 = cc e in omega arith)
   run_done (stopped {t = t} {a = a} {b = b} {ps = ps} {r = r} c x) e st v =
-      absurd (let y = (words_stop t st a b v.0.0 v.0.1 ps r c x).0 in let g : none ≡ some u = sym y ∙ e in let z : ◌≡◌ {A = ℕ} 0 1 = cc g in omega arith)
+      absurd (let y = (words_stop t st a b v.0.0 v.0.1 ps r c x).0 in let g : None ≡ Some u = sym y ∙ e in let z : ◌≡◌ {A = ℕ} 0 1 = cc g in omega arith)
   run_done (went_on {t = t} {u = t₁} {a = a} {b = b} {ps = ps} {qs = qs} c x w) e st v =
       let g = words_went t st a b v.0.0 v.0.1 ps qs t₁ c x in
       let d = run_done w e g.stands (rest_keeps t₁ ps qs g.rest (pairs_keep t t₁ g.keeps ps v.1)) in record {
@@ -163,7 +162,7 @@ module _ (u : Tables) where
   all_near w d (suc n) = d.new n (all_near w d n) tt
 
 -- so the tables at the end solve the first pair
-pub run_solves : (t : Tables) (a b : Cell) (u : Tables) → Stands t → Keeps t a → Keeps t b → MemoRun t [] (words a b ∷ []) (some u)
+pub run_solves : (t : Tables) (a b : Cell) (u : Tables) → Stands t → Keeps t a → Keeps t b → MemoRun t [] (words a b ∷ []) (Some u)
     → Solution t (spell u.heap) × (spell u.heap a ≡ spell u.heap b)
 run_solves t a b u st ka kb w = let d = run_done u w refl st ((ka, kb), tt) in
     (d.solution, near_all (spell u.heap a) (spell u.heap b) (λ n. (d.pairs n (all_near u w d n)).0))

@@ -1,8 +1,7 @@
 -- Where the pairs have a solution, unifying with merges takes the steps of unifying without, but for those that change nothing.
 -- The solution reads all merged structures alike, and the arguments still to be gone through are smaller in it than their structures.
 -- So two structures of one class, when they meet again, belong to merges whose arguments are all done, and spell the same already.
-use Rattle.std.proofs.Common.{◌≡◌, ℕ, zero, suc, ◌+◌, ◌<◌, ◌≤◌, Bool, true, cond, ◌⊎◌, List, [], ◌∷◌, sym, refl, ap, ◌∙◌, ap₂, inl, inr, ⊎_elim, arith}
-use mathlib.Core.Option.{Option, none}
+use Rattle.std.proofs.Common.{◌≡◌, ℕ, zero, suc, ◌+◌, ◌<◌, ◌≤◌, Bool, true, cond, ◌⊎◌, List, [], ◌∷◌, sym, refl, ap, ◌∙◌, ap₂, inl, inr, ⊎_elim, arith, Option, None}
 use Rattle.cells.specs.declared.cell.Cell.{Cell}
 use Rattle.cells.specs.declared.cell.Cell.TheVariants.{Reference, Pointer}
 use Rattle.tables.specs.Tables.{Tables, cell_at}
@@ -180,7 +179,7 @@ module _ (s : Reading) where
         solution = d.solution;
         alike = reads_first t st a b ka kb p q ea eb v d.later ∙ structures ∙ sym (reads_second t st a b ka kb p q ea eb v d.later);
         new = λ m i. ⊎_elim (old m) inr (d.new m i);
-        steps = next (ap₂ (λ (x y : Cell). meet t x y ps) ea eb ∙ ap (λ (x : Bool). cond x (go t (arguments t p q ∷ ps)) (stop none)) l) d.steps;
+        steps = next (ap₂ (λ (x y : Cell). meet t x y ps) ea eb ∙ ap (λ (x : Bool). cond x (go t (arguments t p q ∷ ps)) (stop None)) l) d.steps;
       }
         where
           v : Reading

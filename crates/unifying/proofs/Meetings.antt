@@ -1,7 +1,6 @@
 -- How two ends meet that are not both structures: they are the same word, or a variable is bound to the other word,
 -- or no solution reads them alike.
-use Rattle.std.proofs.Common.{◌≡◌, ℕ, Bool, true, false, cond, eqb, ltb, ◌↔◌, List, ◌∷◌, sym, refl, ap, ◌∙◌}
-use mathlib.Core.Option.{none}
+use Rattle.std.proofs.Common.{◌≡◌, ℕ, Bool, true, false, cond, eqb, ltb, ◌↔◌, List, ◌∷◌, sym, refl, ap, ◌∙◌, None}
 use Rattle.std.proofs.lemmas.Bool.{both_ways, eqb-true, eqb-false, ne_eqb}
 use Rattle.cells.specs.declared.cell.Cell.{Cell}
 use Rattle.cells.specs.declared.cell.Cell.TheVariants.{Reference, Pointer, Atom, Integer}
@@ -27,20 +26,20 @@ pub data Met (t : Tables) (ps : List Pair) (c d : Cell) : Next → Type 0 where
   same_variable : c ≡ d → Met t ps c d (go t ps)
   same_constant : c ≡ d → Met t ps c d (go t (rows 0 0 0 ∷ ps))
   binding : (x : ℕ) (w : Cell) → Bindable t x w → in_range w ≡ true → ((s : Reading) → (s c ≡ s d) ↔ (s (Reference x) ≡ s w)) → Met t ps c d (go (bind t x w) ps)
-  failing : ((s : Reading) → Solution t s → s c ≡ s d → ⊥) → Met t ps c d (stop none)
+  failing : ((s : Reading) → Solution t s → s c ≡ s d → ⊥) → Met t ps c d (stop None)
 
 module _ (t : Tables) (r : Rules t) (ps : List Pair) where
   -- different labels
-  labels_clash : (c d : Cell) (l m : Label) (ts us : Terms) → spell t.heap c ≡ node l ts → spell t.heap d ≡ node m us → same_label l m ≡ false → Met t ps c d (stop none)
+  labels_clash : (c d : Cell) (l m : Label) (ts us : Terms) → spell t.heap c ≡ node l ts → spell t.heap d ≡ node m us → same_label l m ≡ false → Met t ps c d (stop None)
   labels_clash c d l m ts us e g apart = failing (λ s f q.
       let z : node l (apply f.0 ts) ≡ node m (apply f.0 us) = ap (apply f.0) (sym e) ∙ sym (f.1 c) ∙ q ∙ f.1 d ∙ ap (apply f.0) g in
       same_label_false l m apart (cc z))
 
   constants : (c d : Cell) (l m : Label) → spell t.heap c ≡ node l nil → spell t.heap d ≡ node m nil → (l ≡ m → c ≡ d)
-      → Met t ps c d (cond (same_label l m) (go t (rows 0 0 0 ∷ ps)) (stop none))
+      → Met t ps c d (cond (same_label l m) (go t (rows 0 0 0 ∷ ps)) (stop None))
   constants c d l m e g same = test (same_label l m) refl
     where
-      test : (b : Bool) → same_label l m ≡ b → Met t ps c d (cond b (go t (rows 0 0 0 ∷ ps)) (stop none))
+      test : (b : Bool) → same_label l m ≡ b → Met t ps c d (cond b (go t (rows 0 0 0 ∷ ps)) (stop None))
       test true q = same_constant (same (same_label_true l m q))
       test false q = labels_clash c d l m nil nil e g q
 
@@ -49,7 +48,7 @@ module _ (t : Tables) (r : Rules t) (ps : List Pair) where
       → Keeps t (Reference x) → unbound (heap_of t.heap) x ≡ true → Keeps t w → spell t.heap w ≡ node l us → Met t ps c d (bind_to t x w ps)
   against c d x w l us turn kx free kw e = test (occurs x (spell t.heap w)) refl
     where
-      test : (b : Bool) → occurs x (spell t.heap w) ≡ b → Met t ps c d (cond b (stop none) (go (bind t x w) ps))
+      test : (b : Bool) → occurs x (spell t.heap w) ≡ b → Met t ps c d (cond b (stop None) (go (bind t x w) ps))
       test true q = failing (λ s f p. no_loop x f.0 l us (sym (ap (occurs x) e) ∙ q)
           (ap (apply f.0) (sym (spell_unbound t r x free)) ∙ sym (f.1 (Reference x)) ∙ (turn s).0 p ∙ f.1 w ∙ ap (apply f.0) e))
       test false q = binding x w (record { in_use = kx.0.0; free = free; keeps = kw.0; absent = q }) kw.1 turn

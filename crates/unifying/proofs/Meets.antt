@@ -1,6 +1,5 @@
 -- The ends of two words meet: by their kinds, where they are not both structures.
-use Rattle.std.proofs.Common.{◌≡◌, ℕ, Bool, true, false, cond, List, ◌∷◌, ℤ, pos, negsuc, sym, refl, ap, ◌∙◌, subst, inl, inr}
-use mathlib.Core.Option.{none}
+use Rattle.std.proofs.Common.{◌≡◌, ℕ, Bool, true, false, cond, List, ◌∷◌, ℤ, pos, negsuc, sym, refl, ap, ◌∙◌, subst, inl, inr, None}
 use Rattle.std.proofs.lemmas.Bool.{both_ways, eq-eqb}
 use Rattle.cells.specs.declared.cell.Cell.{Cell}
 use Rattle.cells.specs.declared.cell.Cell.TheVariants.{Reference, Pointer, Functor, Atom, Integer}
@@ -15,7 +14,7 @@ use Rattle.calls.specs.Unifying.{Pair, rows, stop, go, bind_to, meet}
 use Rattle.unifying.specs.Merging.{both_pointers}
 use Rattle.unifying.specs.Bindings.{Met, goes, stops}
 
-pub met_bound : (t u : Tables) (a b : Cell) (r : Bool) → ((ps : List Pair) → meet t a b ps ≡ cond r (go u ps) (stop none)) → Met t u a b r
+pub met_bound : (t u : Tables) (a b : Cell) (r : Bool) → ((ps : List Pair) → meet t a b ps ≡ cond r (go u ps) (stop None)) → Met t u a b r
 met_bound t u a b true is = goes (λ ps. inl (is ps))
 met_bound t u a b false is = stops is
 
@@ -60,7 +59,7 @@ differ_met t (Atom m) (Pointer q) k l oa ob apart ne = stops (λ ps. refl)
 differ_met t (Atom m) (Functor name arity) k l oa ob apart ne = stops (λ ps. refl)
 differ_met t (Atom m) (Atom n) k l oa ob apart ne =
     let differ : same_label (named m) (named n) ≡ false = false_of _ (λ e. ne (let q : named m ≡ named n = same_label_true _ _ e in let i : m ≡ n = cc in ap Atom i)) in
-    stops (λ ps. ap (λ (c : Bool). cond c (go t (rows 0 0 0 ∷ ps)) (stop none)) differ)
+    stops (λ ps. ap (λ (c : Bool). cond c (go t (rows 0 0 0 ∷ ps)) (stop None)) differ)
 differ_met t (Atom m) (Integer z) k l oa ob apart ne = stops (λ ps. refl)
 differ_met t (Integer y) (Reference n) k l oa ob apart ne = absurd (ob n refl)
 differ_met t (Integer y) (Pointer q) k l oa ob apart ne = stops (λ ps. refl)
@@ -68,7 +67,7 @@ differ_met t (Integer y) (Functor name arity) k l oa ob apart ne = stops (λ ps.
 differ_met t (Integer y) (Atom n) k l oa ob apart ne = stops (λ ps. refl)
 differ_met t (Integer y) (Integer z) k l oa ob apart ne =
     let differ : same_label (whole y) (whole z) ≡ false = false_of _ (λ e. ne (let q : whole y ≡ whole z = same_label_true _ _ e in let i : y ≡ z = cc in ap Integer i)) in
-    stops (λ ps. ap (λ (c : Bool). cond c (go t (rows 0 0 0 ∷ ps)) (stop none)) differ)
+    stops (λ ps. ap (λ (c : Bool). cond c (go t (rows 0 0 0 ∷ ps)) (stop None)) differ)
 
 pub constants_met : (t : Tables) (a b : Cell) (r : Bool) → Keeps t a → Keeps t b → ((n : ℕ) → a ≡ Reference n → ⊥) → ((n : ℕ) → b ≡ Reference n → ⊥) → both_pointers a b ≡ false
     → (r ≡ true → a ≡ b) → (r ≡ false → a ≡ b → ⊥) → Met t t a b r
@@ -77,9 +76,9 @@ constants_met t a b true k l oa ob apart same other =
 constants_met t a b false k l oa ob apart same other = differ_met t a b k l oa ob apart (other refl)
 
 -- the occurs check, then the binding
-pub bind_to_stops : (t u : Tables) (x : ℕ) (w : Cell) → true ≡ occurs x (spell t.heap w) → (ps : List Pair) → bind_to t x w ps ≡ cond false (go u ps) (stop none)
-bind_to_stops t u x w e ps = ap (λ (c : Bool). cond c (stop none) (go (bind t x w) ps)) (sym e)
+pub bind_to_stops : (t u : Tables) (x : ℕ) (w : Cell) → true ≡ occurs x (spell t.heap w) → (ps : List Pair) → bind_to t x w ps ≡ cond false (go u ps) (stop None)
+bind_to_stops t u x w e ps = ap (λ (c : Bool). cond c (stop None) (go (bind t x w) ps)) (sym e)
 
 pub bind_to_goes : (t u : Tables) (x : ℕ) (w : Cell) → false ≡ occurs x (spell t.heap w) → u ≡ bind t x w → (ps : List Pair)
-    → bind_to t x w ps ≡ cond true (go u ps) (stop none)
-bind_to_goes t u x w e is ps = ap (λ (c : Bool). cond c (stop none) (go (bind t x w) ps)) (sym e) ∙ ap (λ (v : Tables). go v ps) (sym is)
+    → bind_to t x w ps ≡ cond true (go u ps) (stop None)
+bind_to_goes t u x w e is ps = ap (λ (c : Bool). cond c (stop None) (go (bind t x w) ps)) (sym e) ∙ ap (λ (v : Tables). go v ps) (sym is)

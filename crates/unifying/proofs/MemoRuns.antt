@@ -1,7 +1,6 @@
 -- Unifying with merges has the result of unifying without. If the words have no unifier both say no, since a run to tables u
 -- would leave one; if they have one, the steps of both come to the same tables.
-use Rattle.std.proofs.Common.{◌≡◌, List, [], ◌∷◌, sym, refl, ap, ◌∙◌}
-use mathlib.Core.Option.{Option, some, none}
+use Rattle.std.proofs.Common.{◌≡◌, List, [], ◌∷◌, sym, refl, ap, ◌∙◌, Option, Some, None}
 use Rattle.tables.specs.Tables.{Tables}
 use Rattle.terms.specs.Terms.{apply}
 use Rattle.heaps.specs.Spelling.{spell}
@@ -16,17 +15,17 @@ use Rattle.unifying.proofs.TextbookSteps.{steps_solve}
 use Rattle.unifying.proofs.Lockstep.{words_did}
 
 -- with nothing to do the result is the tables
-ended : {t : Tables} {merges : List Merge} {r : Option Tables} → MemoRun t merges [] r → r ≡ some t
+ended : {t : Tables} {merges : List Merge} {r : Option Tables} → MemoRun t merges [] r → r ≡ Some t
 ended finished = refl
 
 pub memo_right : MemoRight
 memo_right t a b r st ka kb w = by (unify_words t a b) refl (unify_iso t a b st ka kb) r w
   where
     by : (o : Option Tables) → unify_words t a b ≡ o → MadeEqual t a b o → (r : Option Tables) → MemoRun t [] (words a b ∷ []) r → r ≡ o
-    by none e m none w = refl
-    by none e m (some u) w =
+    by None e m None w = refl
+    by None e m (Some u) w =
         let s = run_solves t a b u st ka kb w in
         absurd (m s.0.0 (sym (s.0.1 a) ∙ s.1 ∙ s.0.1 b))
-    by (some v) e m r w =
+    by (Some v) e m r w =
         let d = words_did (λ c. apply m.0 (spell t.heap c)) t a b r w st ka kb (m.0, λ c. refl) m.1.0 in
-        ended d.rest ∙ ap some (steps_solve d.steps refl _ v e)
+        ended d.rest ∙ ap Some (steps_solve d.steps refl _ v e)

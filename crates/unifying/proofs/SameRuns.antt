@@ -1,7 +1,6 @@
 -- Comparing with merges is right. Where it says yes, unifying with merges would have bound nothing, so the two words spell the same;
 -- where it says no, two of the words met on the way spell different terms.
-use Rattle.std.proofs.Common.{◌≡◌, ℕ, suc, Bool, true, false, List, sym, refl, ap, ◌∙◌, arith}
-use mathlib.Core.Option.{some}
+use Rattle.std.proofs.Common.{◌≡◌, ℕ, suc, Bool, true, false, List, sym, refl, ap, ◌∙◌, arith, Some}
 use Rattle.std.proofs.lemmas.Bool.{both_ways}
 use Rattle.cells.specs.declared.cell.Cell.{Cell}
 use Rattle.cells.specs.declared.cell.Cell.TheVariants.{Reference, Atom, Integer}
@@ -28,7 +27,7 @@ module _ (t : Tables) (st : Stands t) where
   abbrev S : Reading
   S = spell t.heap
 
-  same_memo : {merges : List Merge} {ps : List Pair} {r : Bool} → SameRun t merges ps r → r ≡ true → Each (PairKeeps t) ps → MemoRun t merges ps (some t)
+  same_memo : {merges : List Merge} {ps : List Pair} {r : Bool} → SameRun t merges ps r → r ≡ true → Each (PairKeeps t) ps → MemoRun t merges ps (Some t)
   same_memo finished e v = finished
   same_memo (no_more w) e v = no_more (same_memo w e v.1)
   same_memo (one_more {i = i} {j = j} {k = k} w) e v = let x = row_keeps t i j k v.0 in one_more (same_memo w e (x.0, (x.1, v.1)))
@@ -39,7 +38,7 @@ module _ (t : Tables) (st : Stands t) where
       let m = met_same t st.0 ps (end t a) (end t b) _ (met t st a b v.0.0 v.0.1 ps c) (ap S x) in
       went_on c m.1 (after m.0 m.2 (same_memo w e v.1))
     where
-      after : (qs : List Pair) → Rest ps qs → MemoRun t merges ps (some t) → MemoRun t merges qs (some t)
+      after : (qs : List Pair) → Rest ps qs → MemoRun t merges ps (Some t) → MemoRun t merges qs (Some t)
       after _ behind w = w
       after _ behind_row w = no_more w
   same_memo (differing c x) e v = absurd (both_ways false refl e)

@@ -1,7 +1,6 @@
 -- The steps of unification without merges: their result is the one that `solve` finds, and two words that spell the same term
 -- are done in steps that change nothing.
-use Rattle.std.proofs.Common.{◌≡◌, ℕ, zero, suc, ◌<◌, ◌≤◌, Bool, true, false, cond, List, [], ◌∷◌, sym, refl, ap, ◌∙◌, subst, ap₂, arith}
-use mathlib.Core.Option.{some, none}
+use Rattle.std.proofs.Common.{◌≡◌, ℕ, zero, suc, ◌<◌, ◌≤◌, Bool, true, false, cond, List, [], ◌∷◌, sym, refl, ap, ◌∙◌, subst, ap₂, arith, Some, None}
 use Rattle.std.proofs.lemmas.Bool.{both_ways, eq-eqb, and_parts}
 use Rattle.cells.specs.declared.cell.Cell.{Cell}
 use Rattle.cells.specs.declared.cell.Cell.TheVariants.{Reference, Pointer, Functor, Atom, Integer}
@@ -28,9 +27,9 @@ steps_join arrived y = y
 steps_join (next e x) y = next e (steps_join x y)
 
 -- steps that leave nothing to do come to the tables that `solve` finds
-pub steps_solve : {t u : Tables} {ps qs : List Pair} → Steps t ps u qs → qs ≡ [] → (g : ℕ) (v : Tables) → solve g t ps ≡ some v → u ≡ v
+pub steps_solve : {t u : Tables} {ps qs : List Pair} → Steps t ps u qs → qs ≡ [] → (g : ℕ) (v : Tables) → solve g t ps ≡ Some v → u ≡ v
 steps_solve x e zero v q = absurd (let z : ◌≡◌ {A = ℕ} 0 1 = cc q in omega arith)
-steps_solve (arrived {t = t}) e (suc g) v q = let p : some t ≡ some v = subst (λ (rs : List Pair). solve (suc g) t rs ≡ some v) e q in cc p
+steps_solve (arrived {t = t}) e (suc g) v q = let p : Some t ≡ Some v = subst (λ (rs : List Pair). solve (suc g) t rs ≡ Some v) e q in cc p
 steps_solve (next p x) e (suc g) v q = steps_solve x e g v (sym (ap (after (solve g)) p) ∙ q)
 
 -- the empty row after two constants
@@ -82,7 +81,7 @@ module _ (t : Tables) (st : Stands t) where
             let both : node (label_of (cell_at t p)) (run S (suc p) (arity_of (cell_at t p))) ≡ node (label_of (cell_at t p)) (run S (suc q) (arity_of (cell_at t p))) =
             sym first ∙ e ∙ second in
             let z = ap size first in
-            next (ap₂ (λ (c d : Cell). meet t c d ps) ea eb ∙ ap (λ (x : Bool). cond x (go t (arguments t p q ∷ ps)) (stop none)) l)
+            next (ap₂ (λ (c d : Cell). meet t c d ps) ea eb ∙ ap (λ (x : Bool). cond x (go t (arguments t p q ∷ ps)) (stop None)) l)
             (rows_steps (arity_of (cell_at t p)) (suc p) (suc q) (omega arith) (cc both) (arguments_keep t st a b ka kb p q ea eb l) ps)
         test false l = absurd (functors_alike t st a b ka kb p q ea eb S f e l)
 

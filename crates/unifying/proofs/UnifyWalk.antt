@@ -1,7 +1,6 @@
 -- Unifying is a walk with merges: what its rules are, how two words meet that do not both end at structures, and what bindings
 -- lead back to.
-use Rattle.std.proofs.Common.{◌≡◌, ℕ, ◌<◌, Bool, true, false, eqb, List, [], ◌∷◌, length, sym, refl, ap, ◌∙◌, subst, ⊎_elim, arith}
-use mathlib.Core.Option.{Option, some, none}
+use Rattle.std.proofs.Common.{◌≡◌, ℕ, ◌<◌, Bool, true, false, eqb, List, [], ◌∷◌, length, sym, refl, ap, ◌∙◌, subst, ⊎_elim, arith, Option, Some, None}
 use Rattle.std.proofs.lemmas.Bool.{both_ways, eq-eqb, or_left, or_right}
 use Rattle.cells.specs.declared.cell.Cell.{Cell}
 use Rattle.tables.specs.Tables.{Tables, used}
@@ -19,7 +18,7 @@ use Rattle.unifying.specs.Unified.{Unified}
 use Rattle.unifying.proofs.MemoRuns.{memo_right}
 use Rattle.binding.proofs.UnbindLaws.{unbind_none}
 
-pub unifying : Walk (Option Tables) MemoRun none
+pub unifying : Walk (Option Tables) MemoRun None
 unifying = record {
   empty = λ t ms i j ps r x. no_more x;
   row = λ t ms i j k ps r x. one_more x;
@@ -30,7 +29,7 @@ unifying = record {
 
 -- Two words that do not both end at structures have met.
 pub ends_advanced : (t u : Tables) (a b c d : Cell) → c ≡ end t a → d ≡ end t b → both_pointers c d ≡ false → ((e : Cell) → Keeps t e → Keeps u e)
-    → (ms : List Merge) (ps : List Pair) {yes : Bool} → Met t u c d yes → Advanced (Option Tables) MemoRun none t u a b ms ps ms ps yes
+    → (ms : List Merge) (ps : List Pair) {yes : Bool} → Met t u c d yes → Advanced (Option Tables) MemoRun None t u a b ms ps ms ps yes
 ends_advanced t u a b c d ea eb apart kept ms ps m = record {
   on = λ e r x. on m e r x;
   off = λ e. off m e;
@@ -49,7 +48,7 @@ ends_advanced t u a b c d ea eb apart kept ms ps m = record {
     on (goes f) e r x = ⊎_elim (λ (g : meet t c d ps ≡ go u ps). went_on two (ends _ g) x) (λ (g : meet t c d ps ≡ go u (rows 0 0 0 ∷ ps)). went_on two (ends _ g) (no_more x)) (f ps)
     on (stops f) e r x = absurd (both_ways false refl e)
 
-    off : {yes : Bool} → Met t u c d yes → yes ≡ false → MemoRun t ms (words a b ∷ ps) none
+    off : {yes : Bool} → Met t u c d yes → yes ≡ false → MemoRun t ms (words a b ∷ ps) None
     off (goes f) e = absurd (both_ways true e refl)
     off (stops f) e = stopped two (ends _ (f ps))
 
@@ -76,10 +75,10 @@ noted_used t cells n = by cells (λ k e. (n.bound k e).0)
     by (x ∷ xs) f = (f x (or_left (eqb x x) (is_in x xs) (eq-eqb x x refl)), by xs (λ k e. f k (or_right (eqb x k) (is_in k xs) e)))
 
 -- What a walk leads to is what unification leads to, and giving up the bindings leads back.
-pub walk_unified : (t u : Tables) (a b : Cell) → Stands t → Keeps t a → Keeps t b → MemoRun t [] (words a b ∷ []) (some u) → Unified t a b u true
-walk_unified t u a b st ka kb run = record { result = sym (memo_right t a b (some u) st ka kb run); undone = λ e. absurd (both_ways true e refl) }
+pub walk_unified : (t u : Tables) (a b : Cell) → Stands t → Keeps t a → Keeps t b → MemoRun t [] (words a b ∷ []) (Some u) → Unified t a b u true
+walk_unified t u a b st ka kb run = record { result = sym (memo_right t a b (Some u) st ka kb run); undone = λ e. absurd (both_ways true e refl) }
 
-pub walk_refused : (t u v : Tables) (a b : Cell) (cells : List ℕ) → Stands t → Keeps t a → Keeps t b → MemoRun t [] (words a b ∷ []) none
+pub walk_refused : (t u v : Tables) (a b : Cell) (cells : List ℕ) → Stands t → Keeps t a → Keeps t b → MemoRun t [] (words a b ∷ []) None
     → Stepped t [] u cells → v ≡ unbind_to u cells (length t.trail) → Unified t a b v false
 walk_refused t u v a b cells st ka kb run stepped is =
-    record { result = sym (memo_right t a b none st ka kb run); undone = λ e. is ∙ stepped.back (length t.trail) (omega arith) ∙ unbind_none t }
+    record { result = sym (memo_right t a b None st ka kb run); undone = λ e. is ∙ stepped.back (length t.trail) (omega arith) ∙ unbind_none t }

@@ -1,7 +1,6 @@
 -- What each step of a walk with merges does, for unifying and comparing alike: two structures meet, and the next two argument
 -- cells are taken.
-use Rattle.std.proofs.Common.{◌≡◌, ℕ, suc, ◌<◌, ◌≤◌, Bool, true, false, List, [], ◌∷◌, length, sym, refl, ap, subst, arith}
-use mathlib.Core.Option.{Option, some, none}
+use Rattle.std.proofs.Common.{◌≡◌, ℕ, suc, ◌<◌, ◌≤◌, Bool, true, false, List, [], ◌∷◌, length, sym, refl, ap, subst, arith, Option, Some, None}
 use Rattle.std.proofs.lemmas.Bool.{both_ways}
 use Rattle.cells.specs.declared.cell.Cell.{Cell}
 use Rattle.cells.specs.declared.cell.Cell.TheVariants.{Reference, Pointer}
@@ -44,13 +43,13 @@ module _ {X : Type 0} {R : Run X} {no : X} (w : Walk X R no) (t : Tables) where
   }
 
   -- With nothing left to draw the walk is done,
-  pub drawn_none : (ms : List Merge) (r : X) {ps qs : List Pair} {o : Option (ℕ × ℕ)} → o ≡ none → Draws ps o qs → R t ms [] r → R t ms ps r
+  pub drawn_none : (ms : List Merge) (r : X) {ps qs : List Pair} {o : Option (ℕ × ℕ)} → o ≡ None → Draws ps o qs → R t ms [] r → R t ms ps r
   drawn_none ms r e none_left x = x
   drawn_none ms r e (row_done {i = i} {j = j} {ps = ps} d) x = w.empty t ms i j ps r (drawn_none ms r e d x)
   drawn_none ms r e row_first x = absurd (let z : ◌≡◌ {A = ℕ} 0 1 = cc e in omega arith)
 
   -- and else the two cells that are drawn come next.
-  pub drawn_run : (ms : List Merge) (r : X) (i j : ℕ) {ps qs : List Pair} {o : Option (ℕ × ℕ)} → o ≡ some (i, j) → Draws ps o qs
+  pub drawn_run : (ms : List Merge) (r : X) (i j : ℕ) {ps qs : List Pair} {o : Option (ℕ × ℕ)} → o ≡ Some (i, j) → Draws ps o qs
       → R t ms (words (Reference i) (Reference j) ∷ qs) r → R t ms ps r
   drawn_run ms r i j e none_left x = absurd (let z : ◌≡◌ {A = ℕ} 0 1 = cc e in omega arith)
   drawn_run ms r i j e (row_done {i = m} {j = n} {ps = ps} d) x = w.empty t ms m n ps r (drawn_run ms r i j e d x)
@@ -62,7 +61,7 @@ module _ {X : Type 0} {R : Run X} {no : X} (w : Walk X R no) (t : Tables) where
       (subst (λ y. R t ms (words (Reference y) (Reference j) ∷ rows (suc m) (suc n) k ∷ ps) r) a x))
 
 module _ (t : Tables) where
-  pub drawn_keeps : (i j : ℕ) {ps qs : List Pair} {o : Option (ℕ × ℕ)} → o ≡ some (i, j) → Draws ps o qs → Each (PairKeeps t) ps
+  pub drawn_keeps : (i j : ℕ) {ps qs : List Pair} {o : Option (ℕ × ℕ)} → o ≡ Some (i, j) → Draws ps o qs → Each (PairKeeps t) ps
       → PairKeeps t (words (Reference i) (Reference j)) × Each (PairKeeps t) qs
   drawn_keeps i j e none_left v = absurd (let z : ◌≡◌ {A = ℕ} 0 1 = cc e in omega arith)
   drawn_keeps i j e (row_done d) v = drawn_keeps i j e d v.1
@@ -91,14 +90,14 @@ drawn_fewer none_left = omega arith
 drawn_fewer (row_done d) = let x = drawn_fewer d in omega arith
 drawn_fewer row_first = omega arith
 
-pub drawn_lighter : {ps qs : List Pair} {o : Option (ℕ × ℕ)} (i j : ℕ) → o ≡ some (i, j) → Draws ps o qs → weight qs < weight ps
+pub drawn_lighter : {ps qs : List Pair} {o : Option (ℕ × ℕ)} (i j : ℕ) → o ≡ Some (i, j) → Draws ps o qs → weight qs < weight ps
 drawn_lighter i j e none_left = absurd (let z : ◌≡◌ {A = ℕ} 0 1 = cc e in omega arith)
 drawn_lighter i j e (row_done d) = let x = drawn_lighter i j e d in omega arith
 drawn_lighter i j e row_first = omega arith
 
 -- One turn of a walk: two cells are drawn, and then dealt with.
 module _ {X : Type 0} {R : Run X} {no : X} (w : Walk X R no) (s : Tables) (first : List Merge) (start : List Pair) (t u : Tables) (ms later : List Merge) (ps qs rs : List Pair) (i j : ℕ) (yes : Bool)
-    (under : Underway X R s first start t ms ps) (o : Option (ℕ × ℕ)) (some-drawn : o ≡ some (i, j)) (drawn : Draws ps o qs)
+    (under : Underway X R s first start t ms ps) (o : Option (ℕ × ℕ)) (some-drawn : o ≡ Some (i, j)) (drawn : Draws ps o qs)
     (done : Advanced X R no t u (Reference i) (Reference j) ms qs later rs yes) where
   pub turn_on : yes ≡ true → Underway X R s first start u later rs
   turn_on e = record {

@@ -1,8 +1,7 @@
 -- What one step of a walk does to two words: where it goes on, the two words spell the same afterwards, every solution that reads
 -- them alike stays one, and all that may stand in a register still may; where it stops, no solution reads the two words alike.
 -- Two words that end at structures with the same functor have their arguments left to do.
-use Rattle.std.proofs.Common.{◌≡◌, ℕ, suc, ◌+◌, ◌<◌, true, false, List, ◌∷◌, sym, refl, ap, ◌∙◌, subst, ap₂, subst₂, arith}
-use mathlib.Core.Option.{Option, none}
+use Rattle.std.proofs.Common.{◌≡◌, ℕ, suc, ◌+◌, ◌<◌, true, false, List, ◌∷◌, sym, refl, ap, ◌∙◌, subst, ap₂, subst₂, arith, Option, None}
 use Rattle.cells.specs.declared.cell.Cell.{Cell}
 use Rattle.cells.specs.declared.cell.Cell.TheVariants.{Reference, Pointer, Functor, Atom, Integer}
 use Rattle.tables.specs.Tables.{Tables, cell_at}
@@ -61,7 +60,7 @@ ends_went t c d ps st _ (binding x w b range turn) u qs g = let p : bind t x w �
 ends_went t c d ps st _ (failing f) u qs g = absurd (let z : ◌≡◌ {A = ℕ} 0 1 = cc g in omega arith)
 
 ends_stop : (t : Tables) (c d : Cell) (ps : List Pair) → (x : Next) → Met t ps c d x → (r : Option Tables) → x ≡ stop r
-    → (r ≡ none) × ((s : Reading) → Solution t s → s c ≡ s d → ⊥)
+    → (r ≡ None) × ((s : Reading) → Solution t s → s c ≡ s d → ⊥)
 ends_stop t c d ps _ (same_variable e) r g = absurd (let z : ◌≡◌ {A = ℕ} 0 1 = cc g in omega arith)
 ends_stop t c d ps _ (same_constant e) r g = absurd (let z : ◌≡◌ {A = ℕ} 0 1 = cc g in omega arith)
 ends_stop t c d ps _ (binding x w b range turn) r g = absurd (let z : ◌≡◌ {A = ℕ} 0 1 = cc g in omega arith)
@@ -114,7 +113,7 @@ module _ (t : Tables) (st : Stands t) (a b : Cell) (ka : Keeps t a) (kb : Keeps 
   }
 
   pub words_stop : (ps : List Pair) (r : Option Tables) → both_pointers (end t a) (end t b) ≡ false → meet t (end t a) (end t b) ps ≡ stop r
-      → (r ≡ none) × ((s : Reading) → Solution t s → s a ≡ s b → ⊥)
+      → (r ≡ None) × ((s : Reading) → Solution t s → s a ≡ s b → ⊥)
   words_stop ps r apart e = let w = ends_stop t (end t a) (end t b) ps _ (met ps apart) r e in (w.0, λ s f q. w.1 s f (ends_alike s f q))
 
   -- words that end at structures

@@ -1,6 +1,5 @@
 -- What unifying has bound so far, and one more step of it.
-use Rattle.std.specs.Prelude.{◌≡◌, ℕ, ◌<◌, ◌≤◌, Bool, true, false, ◌⊎◌, List, ◌∷◌, length}
-use Rattle.std.proofs.Math.Option.{none}
+use Rattle.std.specs.Prelude.{◌≡◌, ℕ, ◌<◌, ◌≤◌, Bool, true, false, ◌⊎◌, List, ◌∷◌, length, None}
 use Rattle.cells.specs.declared.cell.Cell.{Cell}
 use Rattle.cells.specs.declared.cell.Cell.TheVariants.{Reference}
 use Rattle.tables.specs.Tables.{Tables, used}
@@ -32,4 +31,4 @@ EndsChain t a = (n : ℕ) → a ≡ Reference n → unbound (heap_of t.heap) n �
 -- Two words that end their chains have met: the answer is yes, and the tables are u; or it is no.
 pub data Met (t u : Tables) (a b : Cell) : Bool → Type 0 where
   goes : ((ps : List Pair) → (meet t a b ps ≡ go u ps) ⊎ (meet t a b ps ≡ go u (rows 0 0 0 ∷ ps))) → Met t u a b true
-  stops : ((ps : List Pair) → meet t a b ps ≡ stop none) → Met t u a b false
+  stops : ((ps : List Pair) → meet t a b ps ≡ stop None) → Met t u a b false

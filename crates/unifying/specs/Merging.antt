@@ -2,8 +2,7 @@
 -- The walk keeps classes of structures already set equal. Where it meets two structures of one class it goes on with the rest;
 -- else it joins their classes and goes through their arguments, left to right. In all else it is the walk of `unify_words`.
 -- A run is the walk from some point to its end, with its result; a program that takes these steps has the same result.
-use Rattle.std.specs.Prelude.{◌≡◌, ℕ, zero, suc, Bool, true, false, ◌&&◌, List, [], ◌∷◌, ◌≢◌}
-use Rattle.std.proofs.Math.Option.{Option, some, none}
+use Rattle.std.specs.Prelude.{◌≡◌, ℕ, zero, suc, Bool, true, false, ◌&&◌, List, [], ◌∷◌, ◌≢◌, Option, Some, None}
 use Rattle.cells.specs.declared.cell.Cell.{Cell}
 use Rattle.cells.specs.declared.cell.Cell.TheVariants.{Reference, Pointer, Functor, Atom, Integer}
 use Rattle.tables.specs.Tables.{Tables, cell_at}
@@ -25,8 +24,8 @@ both_pointers c d = is_pointer c && is_pointer d
 
 -- the functor cells of two words that are both pointers, or none if they are not
 abbrev pub BothStructures : Cell → Cell → Option (ℕ × ℕ) → Type 0
-BothStructures c d none = both_pointers c d ≡ false
-BothStructures c d (some s) = (c ≡ Pointer s.0) × (d ≡ Pointer s.1)
+BothStructures c d None = both_pointers c d ≡ false
+BothStructures c d (Some s) = (c ≡ Pointer s.0) × (d ≡ Pointer s.1)
 
 abbrev pub same_functor : Tables → ℕ → ℕ → Bool
 same_functor t p q = same_label (label_of (cell_at t p)) (label_of (cell_at t q))
@@ -37,7 +36,7 @@ arguments t p q = rows (suc p) (suc q) (arity_of (cell_at t p))
 
 -- Unifying with merges. Words that do not both end at structures meet as they do without merges.
 pub data MemoRun : Tables → List Merge → List Pair → Option Tables → Type 0 where
-  finished : {t : Tables} {merges : List Merge} → MemoRun t merges [] (some t)
+  finished : {t : Tables} {merges : List Merge} → MemoRun t merges [] (Some t)
   no_more : {t : Tables} {merges : List Merge} {i j : ℕ} {ps : List Pair} {r : Option Tables} → MemoRun t merges ps r → MemoRun t merges (rows i j zero ∷ ps) r
   one_more : {t : Tables} {merges : List Merge} {i j k : ℕ} {ps : List Pair} {r : Option Tables}
       → MemoRun t merges (words (Reference i) (Reference j) ∷ rows (suc i) (suc j) k ∷ ps) r → MemoRun t merges (rows i j (suc k) ∷ ps) r
@@ -46,7 +45,7 @@ pub data MemoRun : Tables → List Merge → List Pair → Option Tables → Typ
   merged : {t : Tables} {merges : List Merge} {a b : Cell} {ps : List Pair} {r : Option Tables} (p q : ℕ) → end t a ≡ Pointer p → end t b ≡ Pointer q
       → same_class merges p q ≡ false → same_functor t p q ≡ true → MemoRun t ((p, q) ∷ merges) (arguments t p q ∷ ps) r → MemoRun t merges (words a b ∷ ps) r
   clashed : {t : Tables} {merges : List Merge} {a b : Cell} {ps : List Pair} (p q : ℕ) → end t a ≡ Pointer p → end t b ≡ Pointer q
-      → same_class merges p q ≡ false → same_functor t p q ≡ false → MemoRun t merges (words a b ∷ ps) none
+      → same_class merges p q ≡ false → same_functor t p q ≡ false → MemoRun t merges (words a b ∷ ps) None
   stopped : {t : Tables} {merges : List Merge} {a b : Cell} {ps : List Pair} {r : Option Tables}
       → both_pointers (end t a) (end t b) ≡ false → meet t (end t a) (end t b) ps ≡ stop r → MemoRun t merges (words a b ∷ ps) r
   went_on : {t u : Tables} {merges : List Merge} {a b : Cell} {ps qs : List Pair} {r : Option Tables}

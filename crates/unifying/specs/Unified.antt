@@ -1,13 +1,12 @@
 -- What unifying two words leaves.
-use Rattle.std.specs.Prelude.{◌≡◌, Bool, false, cond}
-use Rattle.std.proofs.Math.Option.{Option, some, none}
+use Rattle.std.specs.Prelude.{◌≡◌, Bool, false, cond, Option, Some, None}
 use Rattle.cells.specs.declared.cell.Cell.{Cell}
 use Rattle.tables.specs.Tables.{Tables}
 use Rattle.calls.specs.Unifying.{unify_words}
 
 -- the result of a walk that left the tables u
 abbrev pub outcome : Bool → Tables → Option Tables
-outcome b u = cond b (some u) none
+outcome b u = cond b (Some u) None
 
 -- From the tables t unifying two words left the tables u: the answer and the tables are those of `unify_words`, and after a no
 -- the tables are as they were.

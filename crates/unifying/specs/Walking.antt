@@ -1,7 +1,6 @@
 -- Walks with merges, step by step. A walk goes from tables, merges and pairs still to do to a result; unifying (`MemoRun`) and
 -- comparing (`SameRun`) are two such walks.
-use Rattle.std.specs.Prelude.{◌≡◌, ℕ, zero, suc, ◌+◌, ◌-◌, ◌*◌, ◌<◌, ◌≤◌, Bool, true, false, List, [], ◌∷◌, length}
-use Rattle.std.proofs.Math.Option.{Option, some, none}
+use Rattle.std.specs.Prelude.{◌≡◌, ℕ, zero, suc, ◌+◌, ◌-◌, ◌*◌, ◌<◌, ◌≤◌, Bool, true, false, List, [], ◌∷◌, length, Option, Some, None}
 use Rattle.cells.specs.declared.cell.Cell.{Cell}
 use Rattle.cells.specs.declared.cell.Cell.TheVariants.{Reference, Pointer}
 use Rattle.tables.specs.Tables.{Tables}
@@ -36,9 +35,9 @@ pub data StructuresMet (t : Tables) (p q : ℕ) (ms : List Merge) (ps : List Pai
 
 -- The next two argument cells are taken from the pairs still to do. Rows that have none left leave.
 pub data Draws : List Pair → Option (ℕ × ℕ) → List Pair → Type 0 where
-  none_left : Draws [] none []
+  none_left : Draws [] None []
   row_done : {i j : ℕ} {ps qs : List Pair} {o : Option (ℕ × ℕ)} → Draws ps o qs → Draws (rows i j zero ∷ ps) o qs
-  row_first : {i j k : ℕ} {ps : List Pair} → Draws (rows i j (suc k) ∷ ps) (some (i, j)) (rows (suc i) (suc j) k ∷ ps)
+  row_first : {i j k : ℕ} {ps : List Pair} → Draws (rows i j (suc k) ∷ ps) (Some (i, j)) (rows (suc i) (suc j) k ∷ ps)
 
 -- a row with cells left begins at cells of the memory
 abbrev pub Inside : Pair → Type 0

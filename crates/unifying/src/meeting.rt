@@ -1,6 +1,5 @@
 // The ends of two words meet, where they are not both structures.
-ghost use Rattle.std.specs.Prelude.{◌≡◌, true, false, List, [], if◌then◌else◌};
-ghost use Rattle.std.proofs.Math.Option.{none};
+ghost use Rattle.std.specs.Prelude.{◌≡◌, true, false, List, [], if◌then◌else◌, None};
 ghost use Rattle.cells.specs.Cells.{in_range};
 ghost use Rattle.cells.specs.declared.cell.Cell.TheVariants.{Reference};
 ghost use Rattle.tables.specs.Stacks.{listed};
@@ -65,7 +64,7 @@ fn bind_to(
     requires keeps { Keeps (tables_of memory.old) word }
     requires empty { visited visits.old ≡ [] }
     requires noted { Noted (tables_of memory.old) (listed bound.old) }
-    ensures next { (ps : List Pair) → bind_to (tables_of memory.old) x word ps ≡ (if result then go (tables_of memory.new) ps else stop none) }
+    ensures next { (ps : List Pair) → bind_to (tables_of memory.old) x word ps ≡ (if result then go (tables_of memory.new) ps else stop None) }
     ensures stepped { Stepped (tables_of memory.old) (listed bound.old) (tables_of memory.new) (listed bound.new) }
     ensures empty { visited visits.new ≡ [] }
 {

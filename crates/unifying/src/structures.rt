@@ -3,7 +3,6 @@ ghost use Rattle.std.specs.Prelude.{◌≤◌, length};
 ghost use Rattle.cells.specs.declared.cell.Cell.TheVariants.{Pointer};
 ghost use Rattle.tables.specs.Views.{tables_of};
 ghost use Rattle.heaps.specs.LevelLaws.{Stands, Keeps};
-ghost use Rattle.calls.specs.Options.{option_of};
 ghost use Rattle.unifying.specs.Merging.{BothStructures};
 ghost use Rattle.unifying.specs.Walking.{StructuresMet};
 ghost use Rattle.classes.specs.Classes.{merges};
@@ -49,7 +48,7 @@ pub(crate) fn meet_structures(
 
 // The functor cells of two words that are both pointers.
 pub(crate) fn structures(a: Cell, b: Cell) -> Option<(u64, u64)>
-    ensures { BothStructures a b (option_of result) }
+    ensures { BothStructures a b result }
 {
     match a {
         Cell::Pointer(p) => match b {

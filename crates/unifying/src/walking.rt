@@ -1,5 +1,4 @@
-ghost use Rattle.std.specs.Prelude.{◌≡◌, ◌≤◌, true, false, [], ◌∷◌, length};
-ghost use Rattle.std.proofs.Math.Option.{Option, none};
+ghost use Rattle.std.specs.Prelude.{◌≡◌, ◌≤◌, true, false, [], ◌∷◌, length, Option, None};
 ghost use Rattle.tables.specs.Tables.{Tables};
 ghost use Rattle.tables.specs.Views.{tables_of};
 ghost use Rattle.heaps.specs.LevelLaws.{Stands, Keeps};
@@ -66,7 +65,7 @@ fn advance(memory: &mut Memory, left: Cell, right: Cell, work: &mut Work) -> boo
     requires right { Keeps (tables_of memory.old) right }
     requires room { length (pairs_in work.old) ≤ length (merges_in work.old) }
     requires noted { Noted (tables_of memory.old) (bound_in work.old) }
-    ensures advanced { Advanced (Option Tables) MemoRun none (tables_of memory.old) (tables_of memory.new) left right (merges_in work.old) (pairs_in work.old) (merges_in work.new) (pairs_in work.new) result }
+    ensures advanced { Advanced (Option Tables) MemoRun None (tables_of memory.old) (tables_of memory.new) left right (merges_in work.old) (pairs_in work.old) (merges_in work.new) (pairs_in work.new) result }
     ensures stepped { Stepped (tables_of memory.old) (bound_in work.old) (tables_of memory.new) (bound_in work.new) }
 {
     let a = end_of(memory, left);

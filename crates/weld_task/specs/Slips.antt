@@ -1,6 +1,5 @@
 -- The half-made structure of a store, and the slip that belongs to it.
-use Rattle.std.specs.Prelude.{◌≡◌, Ok, Err, Result}
-use Rattle.std.proofs.Math.Option.{Option, some, none}
+use Rattle.std.specs.Prelude.{◌≡◌, Ok, Err, Result, Option, Some, None}
 use Rattle.cells.specs.declared.refusal.Refusal.{Refusal}
 use Rattle.calls.specs.Steps.{Half, draft}
 use Rattle.store.specs.declared.store.Slip.{Slip}
@@ -12,7 +11,7 @@ half_in s = (state s).half
 
 -- the slip is that of the half-made structure
 abbrev pub Held : Store → Slip → Type 0
-Held s slip = draft (state s) ≡ some slip.draft
+Held s slip = draft (state s) ≡ Some slip.draft
 
 -- a slip that is handed on, or handed back with a refusal
 abbrev pub HeldBy : Store → Result Slip (Refusal × Slip) → Type 0
@@ -21,10 +20,10 @@ HeldBy s (Err e) = Held s e.1
 
 -- A structure was begun, which none can be while another is half made; or start was refused.
 abbrev pub Begun : Store → Store → Result Slip Refusal → Type 0
-Begun s t (Ok slip) = Held t slip × (half_in s ≡ none)
+Begun s t (Ok slip) = Held t slip × (half_in s ≡ None)
 Begun s t (Err why) = half_in t ≡ half_in s
 
 -- An argument was written; or the structure was given up.
 abbrev pub Filled : Store → Result Slip Refusal → Type 0
 Filled t (Ok slip) = Held t slip
-Filled t (Err why) = half_in t ≡ none
+Filled t (Err why) = half_in t ≡ None

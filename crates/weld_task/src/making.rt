@@ -1,6 +1,5 @@
 // Structures made on a store: every slip that is handed out is spent, by done or by void.
-ghost use Rattle.std.specs.Prelude.{◌≡◌};
-ghost use Rattle.std.proofs.Math.Option.{none};
+ghost use Rattle.std.specs.Prelude.{◌≡◌, None};
 ghost use Rattle.weld_task.specs.Slips.{half_in, Held, HeldBy, Begun, Filled};
 
 use super::trace::Trace;
@@ -93,7 +92,7 @@ fn settle(
 // Points Xd at the structure.
 fn finish(trace: &mut Trace, store: &mut Store, slip: Slip, d: u64) -> Result<(), Refusal>
     requires { Held store.old slip }
-    ensures { half_in store.new ≡ none }
+    ensures { half_in store.new ≡ None }
 {
     let call = Call::Done {
         slip: slip.draft(),
@@ -115,7 +114,7 @@ fn finish(trace: &mut Trace, store: &mut Store, slip: Slip, d: u64) -> Result<()
 // Gives the cells of the half-made structure back.
 fn give_up(trace: &mut Trace, store: &mut Store, slip: Slip)
     requires { Held store.old slip }
-    ensures { half_in store.new ≡ none }
+    ensures { half_in store.new ≡ None }
 {
     let call = Call::Void { slip: slip.draft() };
     match store.void(slip) {

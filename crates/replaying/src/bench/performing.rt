@@ -1,5 +1,4 @@
-ghost use Rattle.std.specs.Prelude.{◌≡◌, is_some};
-ghost use Rattle.std.proofs.Math.Option.{none};
+ghost use Rattle.std.specs.Prelude.{◌≡◌, is_some, None};
 ghost use Rattle.tables.specs.Tables.{set_up};
 ghost use Rattle.images.specs.Reading.{loaded};
 ghost use Rattle.store.specs.Called.{state};
@@ -44,7 +43,7 @@ fn carry_out(store: &mut Store, place: &mut Option<Slip>, request: Request) -> R
 impl Bench {
     // A store with no cells in use and atom 0 in each register; no slip is held.
     pub fn new() -> Bench
-        ensures { bench_of result.store result.slip ≡ record { state = record { tables = set_up; half = none }; slip = none } }
+        ensures { bench_of result.store result.slip ≡ record { state = record { tables = set_up; half = None }; slip = None } }
     {
         let store = Store::new();
         Bench { store, slip: None }

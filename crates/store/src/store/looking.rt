@@ -6,7 +6,6 @@ ghost use Rattle.calls.specs.Steps.{name_of, seen_at};
 ghost use Rattle.cells.specs.Cells.{in_range, functor_value};
 ghost use Rattle.heaps.specs.Spelling.{arity_of};
 ghost use Rattle.heaps.specs.LevelLaws.{Stands, Keeps};
-ghost use Rattle.calls.specs.Options.{option_of};
 ghost use Rattle.refusing.specs.Refused.{refusal_for};
 ghost use Rattle.store.specs.Called.{state, called, told, nothing, counts, Unchanged, IfRefused};
 
@@ -46,7 +45,7 @@ fn functor_value(cell: Cell) -> u32
 impl Store {
     // With what a call is refused, if it is.
     pub(super) fn refused(&self, call: Call) -> Option<Refusal>
-        ensures { option_of result ≡ refusal_for call (state self.now) }
+        ensures { result ≡ refusal_for call (state self.now) }
     {
         refused(&self.memory, self.half, call)
     }

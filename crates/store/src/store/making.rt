@@ -1,6 +1,5 @@
 // A store is made by set-up, or from an image.
-ghost use Rattle.std.specs.Prelude.{◌≡◌};
-ghost use Rattle.std.proofs.Math.Option.{none};
+ghost use Rattle.std.specs.Prelude.{◌≡◌, None};
 ghost use Rattle.tables.specs.Tables.{set_up};
 ghost use Rattle.tables.specs.Views.{tables_of};
 ghost use Rattle.heaps.specs.LevelLaws.{Stands};
@@ -18,7 +17,7 @@ use unifying::Work;
 impl Store {
     // No cells in use, and atom 0 in each register.
     pub fn new() -> Store
-        ensures { state result ≡ record { tables = set_up; half = none } }
+        ensures { state result ≡ record { tables = set_up; half = None } }
     {
         Store::over(Memory::new())
     }
@@ -39,7 +38,7 @@ impl Store {
     // A store with these tables, and no structure half made.
     fn over(memory: Memory) -> Store
         requires { Stands (tables_of memory) }
-        ensures { state result ≡ record { tables = tables_of memory; half = none } }
+        ensures { state result ≡ record { tables = tables_of memory; half = None } }
     {
         Store {
             memory,

@@ -1,5 +1,4 @@
-ghost use Rattle.std.specs.Prelude.{◌≡◌, pred, ◌+◌, ◌<◌, ◌≤◌, false, ◌++◌, replicate};
-ghost use Rattle.std.proofs.Math.Option.{some};
+ghost use Rattle.std.specs.Prelude.{◌≡◌, pred, ◌+◌, ◌<◌, ◌≤◌, false, ◌++◌, replicate, Some};
 ghost use Rattle.cells.specs.declared.cell.Cell.TheVariants.{Atom};
 ghost use Rattle.tables.specs.Tables.{used, with_heap};
 ghost use Rattle.tables.specs.Views.{tables_of};
@@ -131,7 +130,7 @@ impl Store {
     // The half-made structure that the slip belongs to.
     fn half_of(&self, slip: Draft) -> Half
         requires { wrong_slip (draft (state self.now)) slip ≡ false }
-        ensures { (state self.now).half ≡ some (record { at = result.at; missing = result.missing }) }
+        ensures { (state self.now).half ≡ Some (record { at = result.at; missing = result.missing }) }
     {
         match self.half {
             Some(half) => half,

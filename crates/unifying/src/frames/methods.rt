@@ -1,6 +1,5 @@
 ghost use Rattle.std.specs.Prelude.{◌≡◌, ◌<◌, [], ◌∷◌, length};
 ghost use Rattle.heaps.specs.Lists.{Each};
-ghost use Rattle.calls.specs.Options.{option_of};
 ghost use Rattle.unifying.specs.Frames.{rows_of, pairs};
 ghost use Rattle.unifying.specs.Walking.{Draws, Inside};
 
@@ -51,7 +50,7 @@ impl Frames {
     // The next two cells to be gone through. Rows that have none left leave.
     pub(crate) fn next(&mut self) -> Option<(u16, u16)>
         requires { Each Inside (pairs self.old) }
-        ensures { Draws (pairs self.old) (option_of result) (pairs self.new) }
+        ensures { Draws (pairs self.old) result (pairs self.new) }
     {
         while self.len() > 0 {
             let frame = self.pop();

@@ -1,8 +1,6 @@
-use Rattle.std.proofs.Common.{◌≡◌, ℕ, List, [], length, ap, subst, arith}
-use mathlib.Core.Option.{some, none}
+use Rattle.std.proofs.Common.{◌≡◌, ℕ, List, [], length, ap, subst, arith, Some, None}
 use Rattle.tables.specs.Tables.{Tables}
 use Rattle.tables.specs.Views.{tables_of}
-use Rattle.calls.specs.Options.{option_of}
 use Rattle.unifying.specs.Merging.{finished}
 use Rattle.unifying.specs.Bindings.{Stepped}
 use Rattle.unifying.specs.Frames.{pairs}
@@ -47,7 +45,7 @@ next-requires c = pairs_inside (tables_of c.loop-i.memory) c.loop-i.invariant.1.
 
 pub advance-requires-in-Some : goal.advance-requires-in-Some
 advance-requires-in-Some c =
-    let kept = drawn_keeps (tables_of c.loop-i.memory) c.in-Some.i c.in-Some.j (ap option_of c.in-Some.is) c.next.ensures c.loop-i.invariant.0.keep in
+    let kept = drawn_keeps (tables_of c.loop-i.memory) c.in-Some.i c.in-Some.j c.in-Some.is c.next.ensures c.loop-i.invariant.0.keep in
     record {
       stands = c.loop-i.invariant.1.stands;
       left = kept.0.0;
@@ -60,22 +58,22 @@ pub returns-then-not-advance-2 : goal.returns-then-not-advance-2
 returns-then-not-advance-2 c =
     let e = c.advance.ensures in
     let f = c.advance-in-Some.ensures in
-    let off = turn_off unifying _ _ _ _ _ _ _ _ _ _ _ _ _ c.loop-i.invariant.0 _ (ap option_of c.in-Some.is) c.next.ensures f.advanced c.if-not-advance-2.true in
+    let off = turn_off unifying _ _ _ _ _ _ _ _ _ _ _ _ _ c.loop-i.invariant.0 _ c.in-Some.is c.next.ensures f.advanced c.if-not-advance-2.true in
     record {
-      run = from_start _ _ _ _ c.requires.idle.unmerged c.requires.idle.done e.advanced (e.advanced.on c.if-not-advance.false none off);
+      run = from_start _ _ _ _ c.requires.idle.unmerged c.requires.idle.done e.advanced (e.advanced.on c.if-not-advance.false None off);
       stepped = bare _ _ _ _ c.requires.idle.unbound (stepped_on e.stepped (stepped_on c.loop-i.invariant.1 f.stepped));
     }
 
 pub loop-i-smaller : goal.loop-i-smaller
 loop-i-smaller c =
     let f = c.advance-in-Some.ensures in
-    turn_less unifying _ _ _ _ _ _ _ _ _ _ _ _ _ c.loop-i.invariant.0 _ (ap option_of c.in-Some.is) c.next.ensures f.advanced
+    turn_less unifying _ _ _ _ _ _ _ _ _ _ _ _ _ c.loop-i.invariant.0 _ c.in-Some.is c.next.ensures f.advanced
     (merges_few c.loop-i.work.classes) (merges_few c.advance-in-Some.new.work.classes)
 
 pub loop-i-preserved : goal.loop-i-preserved
 loop-i-preserved c =
     let f = c.advance-in-Some.ensures in (
-      turn_on unifying _ _ _ _ _ _ _ _ _ _ _ _ _ c.loop-i.invariant.0 _ (ap option_of c.in-Some.is) c.next.ensures f.advanced c.if-not-advance-2.false,
+      turn_on unifying _ _ _ _ _ _ _ _ _ _ _ _ _ c.loop-i.invariant.0 _ c.in-Some.is c.next.ensures f.advanced c.if-not-advance-2.false,
       stepped_on c.loop-i.invariant.1 f.stepped,
     )
 
@@ -83,8 +81,8 @@ pub returns : goal.returns
 returns c =
     let e = c.advance.ensures in
     let u = tables_of c.loop-i.memory in
-    let run = c.loop-i.invariant.0.run (some u) (drawn_none unifying u (merges_in c.loop-i.work) (some u) (ap option_of c.in_default.is) c.next.ensures finished) in
+    let run = c.loop-i.invariant.0.run (Some u) (drawn_none unifying u (merges_in c.loop-i.work) (Some u) c.in_default.is c.next.ensures finished) in
     record {
-      run = from_start _ _ _ _ c.requires.idle.unmerged c.requires.idle.done e.advanced (e.advanced.on c.if-not-advance.false (some u) run);
+      run = from_start _ _ _ _ c.requires.idle.unmerged c.requires.idle.done e.advanced (e.advanced.on c.if-not-advance.false (Some u) run);
       stepped = bare _ _ _ _ c.requires.idle.unbound (stepped_on e.stepped c.loop-i.invariant.1);
     }

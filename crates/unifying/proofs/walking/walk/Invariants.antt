@@ -1,4 +1,4 @@
-use mathlib.Core.Option.{Option}
+use Rattle.std.proofs.Common.{Option}
 use Rattle.tables.specs.Tables.{Tables}
 use Rattle.tables.specs.Views.{tables_of}
 use Rattle.unifying.specs.Merging.{MemoRun}

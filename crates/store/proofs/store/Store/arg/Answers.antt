@@ -1,5 +1,4 @@
-use Rattle.std.proofs.Common.{◌≡◌, ℕ, sym, ap, ◌∙◌, rules}
-use mathlib.Core.Option.{Option, some}
+use Rattle.std.proofs.Common.{◌≡◌, ℕ, sym, ap, ◌∙◌, rules, Option, Some}
 use Rattle.cells.specs.Cells.{in_range}
 use Rattle.tables.specs.Views.{tables_of}
 use Rattle.calls.specs.declared.Call.TheVariants.{Arg}
@@ -23,7 +22,7 @@ pub invariant_of-self : goal.invariant_of-self
 invariant_of-self c =
     let s = c.args.self.now in
     let d = c.args.d in
-    let there : some c.in-Some-argument.place ≡ argument (tables_of s.memory) c.args.s c.args.i = c.in-Some-argument.ensures in
+    let there : Some c.in-Some-argument.place ≡ argument (tables_of s.memory) c.args.s c.args.i = c.in-Some-argument.ensures in
     let made = ap (λ (o : Option ℕ). (set_argument (state s) d o).1) there in
-    let written : state_of c.set_register.new.self s.half ≡ (set_argument (state s) d (some c.in-Some-argument.place)).1 = search rules in
+    let written : state_of c.set_register.new.self s.half ≡ (set_argument (state s) d (Some c.in-Some-argument.place)).1 = search rules in
     record { whole = whole_after (Arg d c.args.s c.args.i) s c.set_register.new.self s.half c.in_default.ensures (written ∙ made) }

@@ -1,5 +1,4 @@
-use Rattle.std.proofs.Common.{ℕ, List, length}
-use mathlib.Core.Option.{Option}
+use Rattle.std.proofs.Common.{ℕ, List, length, Option}
 use Rattle.heaps.specs.Lists.{Each}
 use Rattle.calls.specs.Unifying.{Pair}
 use Rattle.unifying.specs.Frames.{pairs}
