@@ -1,31 +1,28 @@
 -- Giving up bindings, the last one first, gives back the tables as they were before.
-use Rattle.std.proofs.Common.{◌≡◌, ℕ, zero, suc, ◌+◌, ◌-◌, ◌<◌, ◌≤◌, Bool, true, false, cond, List, [], ◌∷◌, ◌++◌, reverse, length, get_or, take, set, sym, refl, ap, ◌∙◌, ap₂, arith}
+use Rattle.std.proofs.Common.{◌≡◌, ℕ, zero, suc, ◌≤◌, Bool, true, false, cond, List, [], ◌∷◌, ◌++◌, reverse, length, get_or, take, set, sym, refl, ap, ◌∙◌, ap₂, arith}
 use mathlib.Core.List.{reverse-append}
-use Rattle.std.proofs.lemmas.List.{take_more, take_all, set-set, set-get_or}
+use Rattle.std.proofs.lemmas.List.{take_all, set-set, set-get_or}
 use Rattle.cells.specs.declared.cell.Cell.{Cell}
 use Rattle.cells.specs.declared.cell.Cell.TheVariants.{Reference}
 use Rattle.tables.specs.Tables.{Tables, with_trail}
 use Rattle.heaps.specs.Leads.{heap_of, unbound}
 use Rattle.heaps.specs.Levels.{unbind_all}
+use Rattle.heaps.specs.Lists.{Each}
 use Rattle.heaps.specs.Binding.{trailed, bind}
 use Rattle.heaps.proofs.WordKinds.{unbound_is}
 use Rattle.binding.specs.Unbinding.{unbind_to}
-
--- a list that is not empty is all but its last element, and that element
-last_out : (xs : List ℕ) (x n : ℕ) → 0 < n → n ≡ length xs → ((d : ℕ) → x ≡ get_or xs (n - 1) d) → xs ≡ take (n - 1) xs ++ (x ∷ [])
-last_out xs x n h long is =
-    let whole : n - 1 + 1 ≡ length xs = omega arith in
-    sym (take_all (length xs) xs (omega arith)) ∙ ap (λ m. take m xs) (sym whole) ∙ take_more xs (n - 1) x (omega arith)
-    ∙ ap (λ y. take (n - 1) xs ++ (y ∷ [])) (sym (is x))
 
 reverse_last : (xs : List ℕ) (x : ℕ) → reverse (xs ++ (x ∷ [])) ≡ x ∷ reverse xs
 reverse_last xs x = reverse-append xs (x ∷ [])
 
 -- the cell that was bound last is made unbound first
-pub unbind_last : (cells : List Cell) (xs : List ℕ) (x n : ℕ) → 0 < n → n ≡ length xs → ((d : ℕ) → x ≡ get_or xs (n - 1) d)
-    → unbind_all (set cells x (Reference x)) (reverse (take (n - 1) xs)) ≡ unbind_all cells (reverse xs)
-unbind_last cells xs x n h long is =
-    sym (ap (λ ys. unbind_all cells (reverse ys)) (last_out xs x n h long is) ∙ ap (unbind_all cells) (reverse_last (take (n - 1) xs) x))
+pub unbind_last : (cells : List Cell) (xs ys : List ℕ) (x : ℕ) → xs ≡ ys ++ (x ∷ []) → unbind_all (set cells x (Reference x)) (reverse ys) ≡ unbind_all cells (reverse xs)
+unbind_last cells xs ys x popped = sym (ap (λ l. unbind_all cells (reverse l)) popped ∙ ap (unbind_all cells) (reverse_last ys x))
+
+-- what holds of each member holds of each in front
+pub each_front : (P : ℕ → Type 0) (xs ys : List ℕ) → Each P (xs ++ ys) → Each P xs
+each_front P [] ys e = tt
+each_front P (x ∷ xs) ys e = (e.0, each_front P xs ys e.1)
 
 set_same : (cells : List Cell) (x : ℕ) → get_or cells x (Reference x) ≡ Reference x → set cells x (Reference x) ≡ cells
 set_same cells x e = ap (set cells x) (sym e) ∙ set-get_or cells x (Reference x)

@@ -40,11 +40,8 @@ pub fn unbind(memory: &mut Memory, bound: &mut Stack<u16, 4096>, top: usize)
     ensures tables { tables_of memory.new ≡ unbind_to (tables_of memory.old) (listed bound.old) top }
     ensures empty { listed bound.new ≡ [] }
 {
-    while bound.len() > 0 {
-        let last = bound.len() - 1;
-        let at = bound.at(last) as usize;
-        memory.set_cell(at, Cell::Reference(at as u64));
-        bound.truncate(last);
+    while let Some(at) = bound.pop() {
+        memory.set_cell(at as usize, Cell::Reference(at as u64));
     }
     memory.cut_trail(top);
 }

@@ -27,8 +27,8 @@ fn unbind_from(memory: &mut Memory, top: usize)
     requires inside { top ≤ length (tables_of memory.old).trail }
     ensures { tables_of memory.new ≡ with_heap (tables_of memory.old) (unbind_all (tables_of memory.old).heap (drop top (tables_of memory.old).trail)) }
 {
-    let entries = memory.trailed();
-    for i in top..entries {
+    // by number: cells are written while entries are read
+    for i in top..memory.trailed() {
         let at = memory.entry(i);
         memory.set_cell(at, Cell::Reference(at as u64));
     }

@@ -18,7 +18,7 @@ is_refused (Refused why) = true
 is_refused (Sees x) = false
 is_refused (Tells x) = false
 is_refused (Hands x) = false
-is_refused (Counts a b c) = false
+is_refused (Counts u) = false
 
 argument_answers : (s : State) (d : ℕ) (o : Option ℕ) → is_refused (set_argument s d o).0 ≡ false
 argument_answers s d None = refl

@@ -9,7 +9,8 @@ use Rattle.calls.specs.declared.Draft.{Draft}
 use Rattle.calls.specs.declared.Call.{Call}
 use Rattle.calls.specs.declared.Answer.{Answer}
 use Rattle.calls.specs.declared.Answer.TheVariants.{Nothing}
-use Rattle.calls.specs.Refusals.{first_hit, is_some, same_draft, wrong_slip, tests, cells_needed}
+use Rattle.calls.specs.Refusals.{first_hit, same_draft, wrong_slip, tests, cells_needed}
+use Rattle.std.specs.Option.{is_some}
 use Rattle.calls.specs.Steps.{Half, State, keeping, draft_of, draft, lacks_argument, on_half, act, unless, refusal_of, step}
 use Rattle.calls.specs.Whole.{HalfStands, WholeWith, Whole}
 
@@ -56,7 +57,7 @@ step_accepted c left s e = by (refusal_of c s) (ltb 4096 (used s.tables + cells_
 pub half_none : (s : State) → is_some (draft s) ≡ false → s.half ≡ None
 half_none s e = by s.half e
   where
-    by : (o : Option Half) → is_some {A = Draft} (elim o [ None ↦ None | Some h ↦ Some (draft_of s.tables h) ]) ≡ false → o ≡ None
+    by : (o : Option Half) → is_some {T = Draft} (elim o [ None ↦ None | Some h ↦ Some (draft_of s.tables h) ]) ≡ false → o ≡ None
     by None q = refl
     by (Some h) q = absurd (both_ways true q refl)
 

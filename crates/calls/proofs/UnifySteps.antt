@@ -157,9 +157,9 @@ step_along t₀ t ps σ gs a = subst (λ (hs : List Goal). AlongNext t₀ (Cells
         next : (m : ℕ) → Keeps t (Reference (i + suc m)) × Keeps t (Reference (j + suc m)) → Keeps t (Reference (suc i + m)) × Keeps t (Reference (suc j + m))
         next m p = subst₂ (λ (x y : ℕ). Keeps t (Reference x) × Keeps t (Reference y)) (omega arith) (omega arith) p
 
-pub solve_along : (t₀ : Tables) (g : ℕ) (t : Tables) (ps : List Pair) (σ : Subst) (gs : List Goal) → Along t₀ t ps σ gs → BothBound t₀ (Cells.solve g t ps) (Terms.solve g σ gs)
-solve_along t₀ zero t ps σ gs a = tt
-solve_along t₀ (suc g) t ps σ gs a = by (Cells.step t ps) (Terms.step σ gs) (step_along t₀ t ps σ gs a) (solve_along t₀ g)
+pub solve_along : (t₀ : Tables) (g : ℕ) (t : Tables) (ps : List Pair) (σ : Subst) (goals : List Goal) → Along t₀ t ps σ goals → BothBound t₀ (Cells.solve g t ps) (Terms.solve g σ goals)
+solve_along t₀ zero t ps σ goals a = tt
+solve_along t₀ (suc g) t ps σ goals a = by (Cells.step t ps) (Terms.step σ goals) (step_along t₀ t ps σ goals a) (solve_along t₀ g)
   where
     by : (x : Cells.Next) (y : Terms.Next) → AlongNext t₀ x y
         → ((u : Tables) (qs : List Pair) (τ : Subst) (hs : List Goal) → Along t₀ u qs τ hs → BothBound t₀ (Cells.solve g u qs) (Terms.solve g τ hs))

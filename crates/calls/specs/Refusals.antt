@@ -1,6 +1,7 @@
 -- When a call is refused, and with what. The tests of a call run in the order of the refusals' numbers, and the first
 -- that hits is answered. The store and the tree machine share these tests, but for want of cells, which only a store knows.
-use Rattle.std.specs.Prelude.{ℕ, suc, Bool, true, false, cond, not, ◌&&◌, ◌||◌, List, [], ◌∷◌, ◌==◌, nat_le, nat_lt, Option, Some, None}
+use Rattle.std.specs.Option.{is_some}
+use Rattle.std.specs.Prelude.{ℕ, suc, Bool, true, cond, not, ◌&&◌, ◌||◌, List, [], ◌∷◌, ◌==◌, nat_le, nat_lt, Option, Some, None}
 use Rattle.cells.specs.declared.cell.Cell.TheVariants.{Functor, Atom, Integer}
 use Rattle.cells.specs.declared.refusal.Refusal.{Refusal}
 use Rattle.cells.specs.declared.refusal.Refusal.TheVariants.{HalfMade, WrongSlip, NoRegister, OutOfRange, WrongCount, NoArgument, ChoicesFull, NoChoice}
@@ -12,10 +13,6 @@ use Rattle.calls.specs.declared.Call.TheVariants.{Var, Atom as SetAtom, Int, Mov
 abbrev pub first_hit : List (Refusal × Bool) → Option Refusal
 first_hit [] = None
 first_hit (x ∷ xs) = cond x.1 (Some x.0) (first_hit xs)
-
-abbrev pub is_some : {A : Type 0} → Option A → Bool
-is_some None = false
-is_some (Some a) = true
 
 -- a register above 7
 abbrev pub no_register : ℕ → Bool

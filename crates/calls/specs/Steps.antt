@@ -6,10 +6,10 @@ use Rattle.cells.specs.declared.refusal.Refusal.{Refusal}
 use Rattle.cells.specs.declared.refusal.Refusal.TheVariants.{NoCells}
 use Rattle.cells.specs.declared.answer.Seen.{Seen}
 use Rattle.cells.specs.declared.answer.Seen.TheVariants.{Variable, Atom as SeenAtom, Integer as SeenInteger, Structure}
-use Rattle.cells.specs.declared.answer.Verdict.{Verdict}
 use Rattle.cells.specs.declared.answer.Verdict.TheVariants.{No, Yes}
+pub use Rattle.cells.specs.Answers.{verdict}
 use Rattle.cells.specs.Cells.{functor_value}
-use Rattle.tables.specs.Tables.{Tables, used, cell_at, register, with_heap, set_cell, push_cell, cut_heap, set_register, push_choice, keep_choices}
+use Rattle.tables.specs.Tables.{Tables, used, usage_of, cell_at, register, with_heap, set_cell, push_cell, cut_heap, set_register, push_choice, keep_choices}
 use Rattle.terms.specs.Terms.{same_tree}
 use Rattle.heaps.specs.Spelling.{arity_of, spell}
 use Rattle.heaps.specs.Levels.{last, retry}
@@ -70,10 +70,6 @@ argument t s i = argument_of t (end t (register t s)) i
 abbrev pub lacks_argument : Tables → ℕ → ℕ → Bool
 lacks_argument t s i = elim (argument t s i) [ None ↦ true | Some n ↦ false ]
 
-abbrev pub verdict : Bool → Verdict
-verdict true = Yes
-verdict false = No
-
 abbrev pub set_argument : State → ℕ → Option ℕ → Answer × State
 set_argument s d None = (Nothing, s)
 set_argument s d (Some n) = (Nothing, keeping s (set_register s.tables d (cell_at s.tables n)))
@@ -97,7 +93,7 @@ abbrev pub on_half : State → (Half → Answer × State) → Answer × State
 on_half s f = elim s.half [ None ↦ (Nothing, s) | Some h ↦ f h ]
 
 abbrev pub usage : Tables → Answer
-usage t = Counts (used t) (length t.trail) (length t.choices)
+usage t = Counts (usage_of t)
 
 -- An accepted call. `left` is what a collector leaves.
 abbrev pub act : Call → Tables → State → Answer × State

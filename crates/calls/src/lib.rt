@@ -1,13 +1,15 @@
 // The calls of a store and their answers.
 #![tactic(auto)]
 
+pub mod answering;
 pub mod keeping;
 pub mod unifying;
 
 use cells::{Refusal, Seen, Verdict};
+use tables::Usage;
 
 // What a slip says of a half-made structure: its functor, and how many arguments are missing.
-#[derive(Clone, Copy)]
+#[derive(Clone, Copy, PartialEq, Eq)]
 pub struct Draft {
     pub name: u64,
     pub arity: u64,
@@ -38,7 +40,8 @@ pub enum Call {
     Usage,
 }
 
-// What a call answers. A call with nothing to tell answers Nothing.
+// What a call answers. A call with nothing to tell answers Nothing. A refusal is one answer among others, and no error, since
+// runs compare lists of answers; the calls of a store themselves return a Result.
 #[derive(Clone, Copy)]
 pub enum Answer {
     Nothing,
@@ -46,9 +49,5 @@ pub enum Answer {
     Sees(Seen),
     Tells(Verdict),
     Hands(Draft),
-    Counts {
-        used: u64,
-        entries: u64,
-        points: u64,
-    },
+    Counts(Usage),
 }

@@ -4,7 +4,8 @@ ghost use Rattle.cells.specs.Laws.{DecodeEncoded, EncodeDecoded};
 
 use super::refusal::Refusal;
 
-// What a cell holds. Numbers of any size can be named; only those in range have a word.
+// What a cell holds. Numbers of any size can be named, and only those in range have a word: so the range is no invariant,
+// and what writes a cell requires it.
 #[derive(Clone, Copy, PartialEq, Eq, Debug)]
 pub enum Cell {
     // refers to a cell by its number; a cell that refers to itself is an unbound variable
@@ -31,7 +32,7 @@ impl Cell {
         }
     }
 
-    // The word of a cell in range.
+    // The word of a cell in range: the low three bits are the kind's number, the other 29 its value.
     pub fn word(self) -> u32
         requires { in_range self ≡ true }
         ensures { result ≡ word_of self }
@@ -80,6 +81,7 @@ impl Cell {
         ensures law { EncodeDecoded }
     {
         let cell = Cell::of(word);
+        // kinds 5 to 7 are no cell's
         if word % 8 <= 4 && cell.in_range() {
             Ok(cell)
         } else {
@@ -93,11 +95,7 @@ fn low_bits(z: i64) -> u32
     requires { in_range (Cell.Integer z) ≡ true }
     ensures { result ≡ bits29 z }
 {
-    if z < 0 {
-        (z + 536_870_912) as u32
-    } else {
-        z as u32
-    }
+    z.rem_euclid(536_870_912) as u32
 }
 
 // The integer that 29 bits stand for.

@@ -31,7 +31,7 @@ pub enum Refusal {
 }
 
 impl Refusal {
-    // The number under which a refusal is known to callers.
+    // The number under which a refusal is known to callers. A method, since its name says what the number is.
     pub fn number(self) -> u8
         ensures { result ≡ number_of self }
     {

@@ -1,2 +1,1 @@
 pub mod FoundLines
-pub mod RuleOrder

@@ -1,84 +1,42 @@
 // Rules 1 to 3: references, pointers and functors in the heap.
-ghost use Rattle.std.specs.Prelude.{◌≡◌};
+ghost use Rattle.std.specs.Prelude.{◌≡◌, ℕ, ◌<◌, Bool, [], ◌∷◌};
 ghost use Rattle.tables.specs.Tables.{used};
 ghost use Rattle.tables.specs.Views.{tables_of};
 ghost use Rattle.heaps.specs.declared.rule.Rule.TheVariants.{References, Pointers, Arguments};
-ghost use Rattle.heaps.specs.Leads.{heap_of};
-ghost use Rattle.heaps.specs.RuleTests.{stray_reference, stray_pointer, lacks_argument, parts_of, lowest_line};
+ghost use Rattle.heaps.specs.RuleTests.{cell_part, parts_of, lowest_line};
 
-use super::lines::CELLS;
-use super::places::{Places, lowest_line};
+use super::lines::{FIRST_CELL_LINE, on_line};
 use tables::Memory;
 use words::{lacks_argument, stray_pointer, stray_reference};
 
-#[derive(Drop)]
-struct ReferenceTest;
-
-impl Places for ReferenceTest {
-    ghost span = { used };
-
-    ghost faulty = { λ t i. stray_reference (heap_of t.heap) (used t) (heap_of t.heap i) };
-
-    fn len(&self, memory: &Memory) -> usize {
-        memory.used()
-    }
-
-    fn at_fault(&mut self, memory: &Memory, place: usize) -> bool {
-        stray_reference(memory, memory.cell(place))
-    }
-}
-
-#[derive(Drop)]
-struct PointerTest;
-
-impl Places for PointerTest {
-    ghost span = { used };
-
-    ghost faulty = { λ t i. stray_pointer (heap_of t.heap) (used t) (heap_of t.heap i) };
-
-    fn len(&self, memory: &Memory) -> usize {
-        memory.used()
-    }
-
-    fn at_fault(&mut self, memory: &Memory, place: usize) -> bool {
-        stray_pointer(memory, memory.cell(place))
-    }
-}
-
-#[derive(Drop)]
-struct ArgumentTest;
-
-impl Places for ArgumentTest {
-    ghost span = { used };
-
-    ghost faulty = { λ t i. lacks_argument (heap_of t.heap) (used t) i (heap_of t.heap i) };
-
-    fn len(&self, memory: &Memory) -> usize {
-        memory.used()
-    }
-
-    fn at_fault(&mut self, memory: &Memory, place: usize) -> bool {
-        lacks_argument(memory, place, memory.cell(place))
-    }
+// The line of the first cell in use that is at fault.
+fn cell_line<F: Fn(usize) -> bool>(memory: &Memory, at_fault: F) -> Option<u64>
+    ghost fault: { ℕ → Bool }
+    requires callable { (i : ℕ) → i < used (tables_of memory.now) → F.pre at_fault i }
+    requires gives { (i : ℕ) (b : Bool) → i < used (tables_of memory.now) → F.post at_fault i b → b ≡ fault i }
+    ensures { result ≡ lowest_line (cell_part (tables_of memory.now) fault ∷ []) }
+{
+    let place = (0..memory.used()).position(at_fault);
+    on_line(FIRST_CELL_LINE, place)
 }
 
 // Rule 1: the line of the first reference that leads wrong.
 pub fn first_stray_reference(memory: &Memory) -> Option<u64>
     ensures { result ≡ lowest_line (parts_of (tables_of memory.now) References) }
 {
-    lowest_line(&mut ReferenceTest, memory, CELLS)
+    cell_line(memory, |i| stray_reference(memory, memory.cell(i)))
 }
 
 // Rule 2: the line of the first pointer that leads wrong.
 pub fn first_stray_pointer(memory: &Memory) -> Option<u64>
     ensures { result ≡ lowest_line (parts_of (tables_of memory.now) Pointers) }
 {
-    lowest_line(&mut PointerTest, memory, CELLS)
+    cell_line(memory, |i| stray_pointer(memory, memory.cell(i)))
 }
 
 // Rule 3: the line of the first functor that lacks an argument.
 pub fn first_lacking_functor(memory: &Memory) -> Option<u64>
     ensures { result ≡ lowest_line (parts_of (tables_of memory.now) Arguments) }
 {
-    lowest_line(&mut ArgumentTest, memory, CELLS)
+    cell_line(memory, |i| lacks_argument(memory, i, memory.cell(i)))
 }

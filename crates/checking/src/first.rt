@@ -1,7 +1,8 @@
 // The first fault.
 ghost use Rattle.std.specs.Prelude.{◌≡◌};
+ghost use Rattle.std.specs.Result.{result_err};
 ghost use Rattle.tables.specs.Views.{tables_of};
-ghost use Rattle.heaps.specs.RuleTests.{parts_of, lowest_line, fault};
+ghost use Rattle.heaps.specs.RuleTests.{fault, fault_at};
 
 use super::cell_rules::{first_lacking_functor, first_stray_pointer, first_stray_reference};
 use super::register_rule::first_stray_register;
@@ -11,40 +12,27 @@ use super::work::Work;
 use heaps::{Fault, Rule};
 use tables::Memory;
 
-// The lowest line that a rule finds at fault.
-fn first_line(rule: Rule, memory: &Memory, work: &mut Work) -> Option<u64>
-    ensures { result ≡ lowest_line (parts_of (tables_of memory.now) rule) }
+// Fails with the rule where it is given a line at fault.
+fn none_at_fault(rule: Rule, line: Option<u64>) -> Result<(), Fault>
+    ensures { result_err result ≡ fault_at rule line }
 {
-    match rule {
-        Rule::References => first_stray_reference(memory),
-        Rule::Pointers => first_stray_pointer(memory),
-        Rule::Arguments => first_lacking_functor(memory),
-        Rule::Registers => first_stray_register(memory),
-        Rule::Trail => entry_line(memory, &mut work.named),
-        Rule::Tops => first_stray_top(memory),
-        Rule::Cycles => cycle_line(memory, &mut work.cycles),
-        Rule::Levels => level_line(memory, &mut work.undone),
+    match line {
+        None => Ok(()),
+        Some(line) => Err(Fault { rule, line }),
     }
 }
 
-// The lowest broken rule and its lowest line at fault, or none where all rules hold.
-pub fn first_fault(memory: &Memory, work: &mut Work) -> Option<Fault>
-    ensures { result ≡ fault (tables_of memory.now) }
+// The error is the lowest broken rule with its lowest line at fault; there is none where all rules hold.
+#[tactic(auto, unfolding(heaps::specs::RuleTests::fault))]
+pub fn check(memory: &Memory, work: &mut Work) -> Result<(), Fault>
+    ensures { result_err result ≡ fault (tables_of memory.now) }
 {
-    let rules = [
-        Rule::References,
-        Rule::Pointers,
-        Rule::Arguments,
-        Rule::Registers,
-        Rule::Trail,
-        Rule::Tops,
-        Rule::Cycles,
-        Rule::Levels,
-    ];
-    for rule in &rules {
-        if let Some(line) = first_line(*rule, memory, work) {
-            return Some(Fault { rule: *rule, line });
-        }
-    }
-    None
+    none_at_fault(Rule::References, first_stray_reference(memory))?;
+    none_at_fault(Rule::Pointers, first_stray_pointer(memory))?;
+    none_at_fault(Rule::Arguments, first_lacking_functor(memory))?;
+    none_at_fault(Rule::Registers, first_stray_register(memory))?;
+    none_at_fault(Rule::Trail, entry_line(memory, &mut work.named))?;
+    none_at_fault(Rule::Tops, first_stray_top(memory))?;
+    none_at_fault(Rule::Cycles, cycle_line(memory, &mut work.cycles))?;
+    none_at_fault(Rule::Levels, level_line(memory, &mut work.undone))
 }

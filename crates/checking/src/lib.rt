@@ -4,11 +4,10 @@
 mod cell_rules;
 mod first;
 mod lines;
-mod places;
 mod register_rule;
 mod searches;
 mod top_rule;
 mod work;
 
-pub use first::first_fault;
+pub use first::check;
 pub use work::Work;

@@ -4,9 +4,9 @@ ghost use Rattle.checking.specs.Works.{New};
 use cycles::CycleWork;
 use marks::BitMarks;
 
-// What it holds before a call does not matter. It takes 34,840 bytes:
+// What it holds before a call does not matter. It takes 34,320 bytes:
 // 512 for the cells that trail entries name, 512 for the cells that a choice point sees unbound,
-// and for cycles four tables of 8,192 bytes, two sets of 512 bytes and three numbers.
+// and for cycles notes of six bytes for each cell, a list of 8,200 bytes, two numbers and a set of 512 bytes.
 #[derive(Drop)]
 pub struct Work {
     pub(crate) named: BitMarks,

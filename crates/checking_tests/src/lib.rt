@@ -4,9 +4,10 @@
 #[cfg(test)]
 mod tests {
     use cells::Cell;
-    use checking::{Work, first_fault};
+    use checking::{Work, check};
     use tables::Memory;
 
+    // A cell that does not fit is left out. Crates of tests share no code.
     fn push(memory: &mut Memory, cell: Cell) {
         if memory.used() < 4096 && cell.in_range() {
             memory.push_cell(cell);
@@ -33,59 +34,57 @@ mod tests {
         }
     }
 
-    // The number of the rule and the line, or zeros.
-    fn found(memory: &Memory) -> (u8, u64) {
-        let mut work = Work::new();
-        match first_fault(memory, &mut work) {
-            Some(fault) => (fault.rule.number(), fault.line),
-            None => (0, 0),
-        }
-    }
+    // The number of the broken rule and the line at fault: rules by number, as imagecheck prints them.
+    type Found = Result<(), (u8, u64)>;
 
-    fn told(cells: &[Cell]) -> (u8, u64) {
-        let memory = with_cells(cells);
-        found(&memory)
+    fn found(memory: &Memory) -> Found {
+        check(memory, &mut Work::new()).map_err(|fault| (fault.rule.number(), fault.line))
     }
 
     const PAIR: Cell = Cell::Functor { name: 1, arity: 2 };
 
     #[test]
     fn cells(rt: HostRuntime) {
-        assert_eq!(rt; told(&[]), (0, 0));
-        assert_eq!(rt; told(&[PAIR, Cell::Reference(1), Cell::Atom(0)]), (0, 0));
-        assert_eq!(rt; told(&[Cell::Pointer(0), Cell::Reference(9)]), (1, 3));
-        assert_eq!(rt; told(&[Cell::Pointer(0)]), (2, 2));
-        assert_eq!(rt; told(&[PAIR, Cell::Atom(0)]), (3, 2));
-        assert_eq!(rt;
-            told(&[Cell::Reference(1), Cell::Reference(2), Cell::Reference(1)]),
-            (7, 3)
-        );
-        assert_eq!(rt;
-            told(&[Cell::Pointer(1), PAIR, Cell::Atom(0), Cell::Pointer(1)]),
-            (7, 3)
-        );
+        let cases: [(&[Cell], Found); 7] = [
+            (&[], Ok(())),
+            (&[PAIR, Cell::Reference(1), Cell::Atom(0)], Ok(())),
+            (&[Cell::Pointer(0), Cell::Reference(9)], Err((1, 3))),
+            (&[Cell::Pointer(0)], Err((2, 2))),
+            (&[PAIR, Cell::Atom(0)], Err((3, 2))),
+            (
+                &[Cell::Reference(1), Cell::Reference(2), Cell::Reference(1)],
+                Err((7, 3)),
+            ),
+            (
+                &[Cell::Pointer(1), PAIR, Cell::Atom(0), Cell::Pointer(1)],
+                Err((7, 3)),
+            ),
+        ];
+        for (i, (cells, expected)) in cases.iter().enumerate() {
+            assert_eq!(rt; found(&with_cells(cells)), *expected, "case {i}");
+        }
     }
 
     #[test]
     fn tables(rt: HostRuntime) {
         let mut memory = with_cells(&[Cell::Atom(0)]);
         memory.set_register(7, Cell::Reference(1));
-        assert_eq!(rt; found(&memory), (4, 10));
+        assert_eq!(rt; found(&memory), Err((4, 10)));
         let mut memory = with_cells(&[Cell::Atom(0), Cell::Atom(1)]);
         trail(&mut memory, 1);
         trail(&mut memory, 0);
         trail(&mut memory, 1);
-        assert_eq!(rt; found(&memory), (5, 14));
+        assert_eq!(rt; found(&memory), Err((5, 14)));
         let mut memory = with_cells(&[Cell::Atom(0), Cell::Atom(0)]);
         open(&mut memory);
         memory.cut_heap(1);
-        assert_eq!(rt; found(&memory), (6, 11));
+        assert_eq!(rt; found(&memory), Err((6, 11)));
         let mut memory = with_cells(&[Cell::Reference(1)]);
         open(&mut memory);
         push(&mut memory, Cell::Atom(0));
-        assert_eq!(rt; found(&memory), (8, 12));
+        assert_eq!(rt; found(&memory), Err((8, 12)));
         trail(&mut memory, 0);
-        assert_eq!(rt; found(&memory), (0, 0));
+        assert_eq!(rt; found(&memory), Ok(()));
     }
 
     // Each cell refers to the next, and the last to the given cell.
@@ -100,8 +99,8 @@ mod tests {
 
     #[test]
     fn full_heaps(rt: HostRuntime) {
-        assert_eq!(rt; found(&chain(0)), (7, 2));
-        assert_eq!(rt; found(&chain(4000)), (7, 4002));
-        assert_eq!(rt; found(&chain(4095)), (0, 0));
+        for (end, expected) in [(0, Err((7, 2))), (4000, Err((7, 4002))), (4095, Ok(()))] {
+            assert_eq!(rt; found(&chain(end)), expected, "end {end}");
+        }
     }
 }

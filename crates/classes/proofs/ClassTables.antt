@@ -1,58 +1,84 @@
--- What the tables of classes hold, after writes to links and ranks.
-use Rattle.std.proofs.Common.{◌≡◌, ℕ, zero, suc, ◌+◌, ◌<◌, ◌≤◌, false, ◌||◌, eqb, ◌⊎◌, List, [], ◌∷◌, length, set, replicate, refl, ap, ◌∙◌, ⊎_elim, arith}
-use Rattle.std.proofs.lemmas.List.{get_or-set_same, get_or-set_other}
-use Rattle.std.proofs.lemmas.Bool.{ne_eqb, cases_eq, or_from}
-use Rattle.classes.specs.Merges.{Merge, same_class}
-use Rattle.classes.specs.Links.{at, named, Untouched, Linked, OnWay}
+-- What the tables of classes hold, after writes to nodes.
+use Rattle.std.proofs.Common.{◌≡◌, ℕ, zero, suc, ◌+◌, ◌<◌, ◌≤◌, false, cond, eqb, ◌⊎◌, List, ◌∷◌, length, get_or, set, replicate, refl, sym, ap, ◌∙◌, ⊎_elim, arith}
+use Rattle.std.proofs.lemmas.List.{get_or-set_same, get_or-set_other, length-set}
+use Rattle.std.proofs.lemmas.Bool.{ne_eqb, eq-eqb, cases_eq}
+use Rattle.classes.specs.Merges.{same_class}
+use Rattle.classes.specs.Links.{root, link_at, rank_at, put, Linked, OnWay}
 use Rattle.classes.specs.Classes.{merges}
 use Rattle.classes.specs.declared.classes.Classes.{Classes}
+use Rattle.classes.specs.declared.classes.Node.{Node}
 use Rattle.classes.proofs.LinkLaws.{linked_of, linked_more, few}
 
-pub at_zeros : (n x : ℕ) → at (replicate n 0) x ≡ 0
-at_zeros zero x = refl
-at_zeros (suc n) zero = refl
-at_zeros (suc n) (suc x) = at_zeros n x
+pub roots : (n x : ℕ) → get_or (replicate n root) x root ≡ root
+roots zero x = refl
+roots (suc n) zero = refl
+roots (suc n) (suc x) = roots n x
 
-zero_here : (xs : List ℕ) (i : ℕ) → at (set xs i 0) i ≡ 0
-zero_here [] i = refl
-zero_here (x ∷ xs) zero = refl
-zero_here (x ∷ xs) (suc i) = zero_here xs i
+-- A link and a rank are written.
+abbrev pub hung : List Node → ℕ → ℕ → ℕ → ℕ → List Node
+hung ns c d l r =
+    let below = set ns c (record { link = l; rank = rank_at ns c }) in
+    set below d (record { link = link_at below d; rank = r })
 
--- a write of 0 leaves zeros
-zero_stays : (xs : List ℕ) (i x : ℕ) → at xs x ≡ 0 → at (set xs i 0) x ≡ 0
-zero_stays xs i x z = ⊎_elim (λ s. ap (at (set xs i 0)) s ∙ zero_here xs i) (λ ne. get_or-set_other xs i x 0 0 ne ∙ z) (cases_eq x i)
-
--- one merge less
-pub untouched_fewer : (m : Merge) (ms : List Merge) (links ranks : List ℕ) → Untouched (m ∷ ms) (at links) (at ranks)
-    → Untouched ms (at (set (set links m.0 0) m.1 0)) (at (set (set ranks m.0 0) m.1 0))
-untouched_fewer m ms links ranks old x s = (both links (λ f. (old x f).0), both ranks (λ f. (old x f).1))
-  where
-    both : (xs : List ℕ) → (named (m ∷ ms) x ≡ false → at xs x ≡ 0) → at (set (set xs m.0 0) m.1 0) x ≡ 0
-    both xs z = ⊎_elim (λ e. ap (at (set (set xs m.0 0) m.1 0)) e ∙ zero_here (set xs m.0 0) m.1) (λ ne. right ne) (cases_eq x m.1)
-      where
-        right : (x ≡ m.1 → ⊥) → at (set (set xs m.0 0) m.1 0) x ≡ 0
-        right ne = ⊎_elim (λ e. zero_stays (set xs m.0 0) m.1 x (ap (at (set xs m.0 0)) e ∙ zero_here xs m.0)) left (cases_eq x m.0)
-          where
-            left : (x ≡ m.0 → ⊥) → at (set (set xs m.0 0) m.1 0) x ≡ 0
-            left nl = zero_stays (set xs m.0 0) m.1 x (zero_stays xs m.0 x (z (or_from (eqb x m.0 || eqb x m.1) (named ms x) (or_from (eqb x m.0) (eqb x m.1) (ne_eqb x m.0 nl) (ne_eqb x m.1 ne)) s)))
-
-pub table_linked : (s : Classes) → Linked (merges s) (at s.links) (at s.ranks)
-table_linked s = linked_of (merges s) (at s.links) (at s.ranks) s.linked
+pub table_linked : (s : Classes) → Linked (merges s) (link_at s.nodes) (rank_at s.nodes)
+table_linked s = linked_of (merges s) (link_at s.nodes) (rank_at s.nodes) s.linked
 
 -- There are fewer merges than cells.
 pub merges_few : (s : Classes) → length (merges s) < 4096
-merges_few s = few (merges s) (at s.links) (at s.ranks) (table_linked s)
+merges_few s = few (merges s) (link_at s.nodes) (rank_at s.nodes) (table_linked s)
 
-module _ (s : Classes) (p q a b c d rank : ℕ) (left : p < 4096) (right : q < 4096) (apart : same_class (merges s) p q ≡ false)
-    (ra : OnWay (merges s) p a) (ta : at s.links a ≡ 0) (rb : OnWay (merges s) q b) (tb : at s.links b ≡ 0)
-    (sides : ((c ≡ a) × (d ≡ b)) ⊎ ((c ≡ b) × (d ≡ a))) (lower : c < 4096) (upper : d < 4096)
-    (higher : at s.ranks c < rank) (grown : at s.ranks d ≤ rank) (bound : rank ≤ suc (length (merges s))) where
-  pub hung_linked : Linked ((p, q) ∷ merges s) (at (set s.links c (d + 1))) (at (set s.ranks d rank))
+put_here : (f : ℕ → ℕ) (i v : ℕ) → put f i v i ≡ v
+put_here f i v = ap (λ b. cond b v (f i)) (eq-eqb i i refl)
+
+put_other : (f : ℕ → ℕ) (i v x : ℕ) → (x ≡ i → ⊥) → put f i v x ≡ f x
+put_other f i v x ne = ap (λ b. cond b v (f x)) (ne_eqb x i ne)
+
+module _ (s : Classes) (p q a b c d r : ℕ) (left : p < 4096) (right : q < 4096) (apart : same_class (merges s) p q ≡ false)
+    (ra : OnWay (merges s) p a) (ta : link_at s.nodes a ≡ 0) (rb : OnWay (merges s) q b) (tb : link_at s.nodes b ≡ 0)
+    (sides : ((c ≡ a) × (d ≡ b)) ⊎ ((c ≡ b) × (d ≡ a)))
+    (higher : rank_at s.nodes c < r) (grown : rank_at s.nodes d ≤ r) (bound : r ≤ suc (length (merges s))) where
+  pub hung_linked : Linked ((p, q) ∷ merges s) (put (link_at s.nodes) c (d + 1)) (put (rank_at s.nodes) d r)
   hung_linked =
-      let inside : c < length s.links = omega (arith, s.links_whole) in
-      let within : d < length s.ranks = omega (arith, s.ranks_whole) in
-      let hung : at (set s.links c (d + 1)) c ≡ d + 1 = get_or-set_same s.links c (d + 1) 0 inside in
-      let ranked : at (set s.ranks d rank) d ≡ rank = get_or-set_same s.ranks d rank 0 within in
-      linked_more (merges s) (at s.links) (at s.ranks) (table_linked s) p q a b c d left right apart ra ta rb tb sides
-      (at (set s.links c (d + 1))) (at (set s.ranks d rank)) (omega (arith, hung)) (λ x ne. get_or-set_other s.links c x (d + 1) 0 ne)
-      (omega (arith, ranked, higher)) (omega (arith, ranked, grown)) (omega (arith, ranked, bound)) (λ x ne. get_or-set_other s.ranks d x rank 0 ne)
+      let link : put (link_at s.nodes) c (d + 1) c ≡ d + 1 = put_here (link_at s.nodes) c (d + 1) in
+      let rank : put (rank_at s.nodes) d r d ≡ r = put_here (rank_at s.nodes) d r in
+      linked_more (merges s) (link_at s.nodes) (rank_at s.nodes) (table_linked s) p q a b c d left right apart ra ta rb tb sides
+      (put (link_at s.nodes) c (d + 1)) (put (rank_at s.nodes) d r) (omega (arith, link)) (put_other (link_at s.nodes) c (d + 1))
+      (omega (arith, rank, higher)) (omega (arith, rank, grown)) (omega (arith, rank, bound)) (put_other (rank_at s.nodes) d r)
+
+module _ (f : Node → ℕ) where
+  abbrev at_field : List Node → ℕ → ℕ
+  at_field ns x = f (get_or ns x root)
+
+  written : (ns : List Node) (i : ℕ) (v : Node) → i < length ns → (x : ℕ) → at_field (set ns i v) x ≡ put (at_field ns) i (f v) x
+  written ns i v h x = ⊎_elim same other (cases_eq x i)
+    where
+      same : x ≡ i → at_field (set ns i v) x ≡ put (at_field ns) i (f v) x
+      same e = ap (at_field (set ns i v)) e ∙ ap f (get_or-set_same ns i v root h) ∙ sym (ap (λ b. cond b (f v) (at_field ns x)) (eq-eqb x i e))
+
+      other : (x ≡ i → ⊥) → at_field (set ns i v) x ≡ put (at_field ns) i (f v) x
+      other ne = ap f (get_or-set_other ns i x v root ne) ∙ sym (put_other (at_field ns) i (f v) x ne)
+
+  -- a node is written, and not this field
+  untold : (ns : List Node) (i : ℕ) (v : Node) → i < length ns → f v ≡ at_field ns i → (x : ℕ) → at_field (set ns i v) x ≡ at_field ns x
+  untold ns i v h e x = written ns i v h x ∙ ⊎_elim same (put_other (at_field ns) i (f v) x) (cases_eq x i)
+    where
+      same : x ≡ i → put (at_field ns) i (f v) x ≡ at_field ns x
+      same s = ap (λ b. cond b (f v) (at_field ns x)) (eq-eqb x i s) ∙ e ∙ ap (at_field ns) (sym s)
+
+-- the fields of the nodes after a class is hung
+module _ (ns : List Node) (c d l r : ℕ) (below : c < length ns) (above : d < length ns) where
+  once : List Node
+  once = set ns c (record { link = l; rank = rank_at ns c })
+
+  pub hung_links : (x : ℕ) → link_at (hung ns c d l r) x ≡ put (link_at ns) c l x
+  unfolding once
+  hung_links x =
+      let long : d < length once = omega (arith, length-set ns c (record { link = l; rank = rank_at ns c })) in
+      untold (λ n. n.link) once d (record { link = link_at once d; rank = r }) long refl x ∙ written (λ n. n.link) ns c (record { link = l; rank = rank_at ns c }) below x
+
+  pub hung_ranks : (x : ℕ) → rank_at (hung ns c d l r) x ≡ put (rank_at ns) d r x
+  unfolding once
+  hung_ranks x =
+      let long : d < length once = omega (arith, length-set ns c (record { link = l; rank = rank_at ns c })) in
+      written (λ n. n.rank) once d (record { link = link_at once d; rank = r }) long x
+      ∙ ap (λ v. cond (eqb x d) r v) (untold (λ n. n.rank) ns c (record { link = l; rank = rank_at ns c }) below refl x)

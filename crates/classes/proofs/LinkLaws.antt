@@ -1,11 +1,11 @@
 -- Links keep the merges: none at first, one more after two classes are joined; equal roots tell that two cells are of one class.
-use Rattle.std.proofs.Common.{◌≡◌, ℕ, suc, ◌-◌, ◌<◌, ◌≤◌, Bool, true, false, cond, ◌||◌, eqb, ◌⊎◌, List, [], ◌∷◌, length, sym, refl, ap, ◌∙◌, subst, ⊎_elim, arith}
+use Rattle.std.proofs.Common.{◌≡◌, ℕ, suc, ◌<◌, ◌≤◌, Bool, true, false, cond, ◌||◌, eqb, ◌⊎◌, List, [], ◌∷◌, length, sym, refl, ap, ◌∙◌, subst, ⊎_elim, arith}
 use mathlib.Core.Bool.{Bool-set}
 use mathlib.Core.Logic.{∥∥₁_elim}
 use mathlib.Core.HLevel.{Π_prop, ×_prop, Unit-prop}
 use native.Mathlib.Nat.{ℕ_set}
 use native.Mathlib.Bridge.{le_prop}
-use Rattle.std.proofs.lemmas.Bool.{both_ways, eqb-true, eqb-false, eq-eqb, ne_eqb, cases_eq, or_left, or_right, or_parts}
+use Rattle.std.proofs.lemmas.Bool.{both_ways, eqb-true, eqb-false, eq-eqb, cases_eq, or_left, or_right, or_parts}
 use Rattle.classes.specs.Merges.{Merge, rep, same_class, Joined}
 use Rattle.classes.specs.Links.{named, Linked, Linked-prop, OnWay}
 use Rattle.classes.proofs.MergeCount.{merges_fewer}
@@ -39,27 +39,6 @@ linked_none link rank bare none =
     }
 
 module _ (merges : List Merge) (link rank : ℕ → ℕ) (linked : Linked merges link rank) where
-  -- two cells are of one class where their roots are equal
-  pub roots_tell : (p q r s : ℕ) → OnWay merges p r → link r ≡ 0 → OnWay merges q s → link s ≡ 0 → eqb r s ≡ same_class merges p q
-  roots_tell p q r s a ta b tb = ⊎_elim equal different (cases_eq r s)
-    where
-      equal : r ≡ s → eqb r s ≡ same_class merges p q
-      equal e = eq-eqb r s e ∙ sym (eq-eqb _ _ (sym a.same ∙ ap (rep merges) e ∙ b.same))
-
-      different : (r ≡ s → ⊥) → eqb r s ≡ same_class merges p q
-      different ne = ne_eqb r s ne ∙ sym (ne_eqb _ _ (λ e. ne (linked.one r s ta tb (a.same ∙ e ∙ sym b.same))))
-
-  -- on the way from a cell to its root
-  pub on_first : (p : ℕ) → p < 4096 → OnWay merges p p
-  on_first p low = record { below = low; same = refl; known = λ ne. absurd (ne refl) }
-
-  pub on_next : (p x y : ℕ) → link x ≡ suc y → OnWay merges p x → OnWay merges p y
-  on_next p x y s on =
-      record { below = let a = linked.inside x in omega arith; same = sym (linked.within x y s) ∙ on.same; known = λ ne. linked.meets x y s }
-
-  pub on_rises : (x y : ℕ) → link x ≡ suc y → 4096 - rank y < 4096 - rank x
-  on_rises x y s = let a = linked.rises x y s in let b = linked.low y in let c = merges_fewer 4096 merges (omega arith) linked.joined in omega arith
-
   pub few : length merges < 4096
   few = merges_fewer 4096 merges (omega arith) linked.joined
 

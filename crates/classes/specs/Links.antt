@@ -1,9 +1,10 @@
 -- How a table of classes keeps the merges: each cell has a link and a rank.
 -- The link 0 marks a root; the link suc y goes to the cell y of the same class. Each class has one root.
-use Rattle.std.specs.Prelude.{◌≡◌, ℕ, suc, ◌<◌, ◌≤◌, Bool, true, false, ◌||◌, List, [], ◌∷◌, map, reverse, length, ◌==◌, ◌≢◌, slice_index}
+use Rattle.std.specs.Prelude.{◌≡◌, ℕ, suc, ◌<◌, ◌≤◌, Bool, true, false, ◌||◌, List, [], ◌∷◌, map, reverse, length, ◌==◌, ◌≢◌, slice_index_or, cond}
 use Rattle.tables.specs.declared.stack.Stack.{Stack}
 use Rattle.tables.specs.Stacks.{listed}
 use Rattle.classes.specs.Merges.{Merge, rep, Joined}
+use Rattle.classes.specs.declared.classes.Node.{Node}
 use Rattle.classes.specs.declared.merged.Merged.{Merged}
 
 abbrev pub merge_of : Merged → Merge
@@ -13,8 +14,18 @@ merge_of m = (m.left, m.right)
 abbrev pub merges_of : Stack Merged 4096 → List Merge
 merges_of s = reverse (map merge_of (listed s))
 
-abbrev pub at : List ℕ → ℕ → ℕ
-at xs x = slice_index xs x
+abbrev pub root : Node
+root = record { link = 0; rank = 0 }
+
+abbrev pub link_at : List Node → ℕ → ℕ
+link_at nodes x = (slice_index_or nodes x root).link
+
+abbrev pub rank_at : List Node → ℕ → ℕ
+rank_at nodes x = (slice_index_or nodes x root).rank
+
+-- a function changed at one place
+abbrev pub put : (ℕ → ℕ) → ℕ → ℕ → ℕ → ℕ
+put f i v x = cond (x == i) v (f x)
 
 -- the cell is one of the two of some merge
 abbrev pub named : List Merge → ℕ → Bool

@@ -1,2 +1,1 @@
-mod FirstFits
 mod Digits

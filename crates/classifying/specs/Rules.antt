@@ -1,5 +1,6 @@
 -- Rules, the first that fits, and the rules of the instrument.
-use Rattle.std.specs.Prelude.{◌≡◌, ℕ, Bool, true, cond, ◌&&◌, List, [], ◌∷◌, Some, None, Option, ◌==◌}
+use Rattle.std.specs.Prelude.{◌≡◌, ℕ, Bool, true, cond, ◌&&◌, List, [], ◌∷◌, Some, None, Option, ◌==◌, find}
+use Rattle.std.specs.Option.{option_map}
 use Rattle.classifying.specs.declared.echo.Zone.{Zone}
 use Rattle.classifying.specs.declared.echo.Zone.TheVariants as zone
 use Rattle.classifying.specs.declared.echo.Strength.{Strength}
@@ -36,8 +37,7 @@ fits r z s = zone_fits r.zone z && strength_fits r.strength s
 
 -- the label of the first rule that fits
 abbrev pub first_fit : List Rule → Zone → Strength → Option Label
-first_fit [] z s = None
-first_fit (r ∷ rs) z s = cond (fits r z s) (Some r.label) (first_fit rs z s)
+first_fit rs z s = option_map (λ r. r.label) (find (λ r. fits r z s) rs)
 
 -- an echo that no rule explains is a flaw
 abbrev pub or_flaw : Option Label → Label

@@ -6,9 +6,10 @@ use std::fmt;
 // Beyond this offset, in tenths of a millimetre, an echo lies beside the weld.
 const EDGE: u32 = 80;
 
-// From this depth on, in percent of the wall, an echo lies at the root, and down to the other at the cap.
+// From this depth on, in percent of the wall, an echo lies at the root.
 const ROOT_DEPTH: u32 = 90;
 
+// Up to this depth an echo lies at the cap.
 const CAP_DEPTH: u32 = 10;
 
 // The least amplitudes of a medium and of a strong echo, in percent of full screen.
@@ -18,28 +19,28 @@ const STRONG_FROM: u32 = 50;
 
 // An echo as it was measured: the offset from the weld's centre line in tenths of a millimetre, the depth in percent of the
 // wall, and the amplitude in percent of full screen.
-#[derive(Clone, Copy)]
+#[derive(Clone, Copy, PartialEq, Eq)]
 pub struct Echo {
     pub offset: u32,
     pub depth: u32,
     pub amplitude: u32,
 }
 
-// Where an echo lies.
-#[derive(Clone, Copy)]
+// Where an echo lies. The numbers are those of the atoms that name the zones.
+#[derive(Clone, Copy, PartialEq, Eq)]
 pub enum Zone {
-    Root,
-    Body,
-    Cap,
-    Beside,
+    Root = 1,
+    Body = 2,
+    Cap = 3,
+    Beside = 4,
 }
 
-// How strong an echo is.
-#[derive(Clone, Copy)]
+// How strong an echo is. The numbers are those of the atoms that name the strengths.
+#[derive(Clone, Copy, PartialEq, Eq)]
 pub enum Strength {
-    Weak,
-    Medium,
-    Strong,
+    Weak = 5,
+    Medium = 6,
+    Strong = 7,
 }
 
 impl Echo {
@@ -75,12 +76,7 @@ impl Zone {
     pub fn atom(self) -> u64
         ensures { result ≡ zone_atom self }
     {
-        match self {
-            Zone::Root => 1,
-            Zone::Body => 2,
-            Zone::Cap => 3,
-            Zone::Beside => 4,
-        }
+        self as u64 // 1 to 4
     }
 }
 
@@ -89,11 +85,7 @@ impl Strength {
     pub fn atom(self) -> u64
         ensures { result ≡ strength_atom self }
     {
-        match self {
-            Strength::Weak => 5,
-            Strength::Medium => 6,
-            Strength::Strong => 7,
-        }
+        self as u64 // 5 to 7
     }
 }
 

@@ -1,25 +1,10 @@
 ghost use Rattle.std.specs.Prelude.{◌≡◌, Some, None};
-ghost use Rattle.classifying.specs.Lines.{is_digit, starts_digit, number, spaced, echo_in};
+ghost use Rattle.classifying.specs.Lines.{number, spaced, echo_in};
 
 use super::echo::Echo;
 
 // The largest number of a line.
 const MOST: u32 = 9999;
-
-fn is_digit(byte: u8) -> bool
-    ensures { result ≡ is_digit byte }
-{
-    48 <= byte && byte <= 57
-}
-
-fn starts_with_digit(text: &[u8]) -> bool
-    ensures { result ≡ starts_digit text.now }
-{
-    match text {
-        [] => false,
-        [first, ..] => is_digit(*first),
-    }
-}
 
 // The number that the text begins with, and the text after it.
 fn number(text: &[u8]) -> Option<(u32, &[u8])>
@@ -28,20 +13,19 @@ fn number(text: &[u8]) -> Option<(u32, &[u8])>
       | None ↦ number text.now ≡ None
     ] }
 {
-    if !starts_with_digit(text) {
+    let [b'0'..=b'9', ..] = text else {
         return None;
-    }
-    let mut n = 0;
-    for (i, byte) in text.iter().enumerate() {
-        if !is_digit(*byte) {
-            return Some((n, &text[i..]));
-        }
-        n = 10 * n + (*byte - 48) as u32;
+    };
+    // digit by digit, as its definition goes; `position`, `from_utf8` and `parse` would each go through the digits again
+    let (mut n, mut rest) = (0, text);
+    while let [digit @ b'0'..=b'9', after @ ..] = rest {
+        n = 10 * n + (*digit - b'0') as u32;
         if n > MOST {
             return None;
         }
+        rest = after;
     }
-    Some((n, &text[text.len()..]))
+    Some((n, rest))
 }
 
 // The number that the text begins with, and the text after the space that follows it.
@@ -52,20 +36,18 @@ fn spaced(text: &[u8]) -> Option<(u32, &[u8])>
     ] }
 {
     let (n, rest) = number(text)?;
-    match rest {
-        [32, after @ ..] => Some((n, after)),
-        _ => None,
-    }
+    Some((n, rest.strip_prefix(b" ")?))
 }
 
 // The echo that a line lists: offset, depth and amplitude with single spaces between them.
+// No TryFrom: an error would have nothing to say.
 pub fn echo_in(line: &[u8]) -> Option<Echo>
     ensures { result ≡ echo_in line.now }
 {
     let (offset, rest) = spaced(line)?;
     let (depth, rest) = spaced(rest)?;
     let (amplitude, rest) = number(rest)?;
-    if rest.len() > 0 || depth > 100 {
+    if !rest.is_empty() || depth > 100 {
         return None;
     }
     Some(Echo {

@@ -5,16 +5,16 @@ ghost use Rattle.classifying.specs.RuleLaws.{StrongIsFlaw, BodyIsFlaw};
 use super::echo::{Strength, Zone};
 use std::fmt;
 
-// What an echo is taken for.
-#[derive(Clone, Copy)]
+// What an echo is taken for. The numbers are those of the atoms that name the labels.
+#[derive(Clone, Copy, PartialEq, Eq)]
 pub enum Label {
-    Root,
-    Flaw,
-    Geometry,
+    Root = 1,
+    Flaw = 8,
+    Geometry = 9,
 }
 
 // A rule explains an echo as what its label says, in a zone and with a strength, or in any.
-#[derive(Clone, Copy)]
+#[derive(Clone, Copy, PartialEq, Eq)]
 pub struct Rule {
     pub label: Label,
     pub zone: Option<Zone>,
@@ -55,14 +55,10 @@ impl Label {
     pub fn atom(self) -> u64
         ensures { result ≡ label_atom self }
     {
-        match self {
-            Label::Root => 1,
-            Label::Flaw => 8,
-            Label::Geometry => 9,
-        }
+        self as u64
     }
 
-    // The label that an atom names.
+    // The label that an atom names. An error in place of None would have nothing to say, so this is no TryFrom.
     pub fn named(atom: u32) -> Option<Label>
         ensures result { result ≡ label_named atom }
         ensures back { NamedBack }
@@ -77,18 +73,12 @@ impl Label {
 }
 
 impl Rule {
-    // Whether the rule explains an echo of this zone and strength.
+    // Whether the rule explains an echo of this zone and strength. They are two arguments, as they are of an echo's term.
     pub fn fits(self, zone: Zone, strength: Strength) -> bool
         ensures { result ≡ fits self zone strength }
     {
-        let in_zone = match self.zone {
-            Some(z) => z.atom() == zone.atom(),
-            None => true,
-        };
-        let as_strong = match self.strength {
-            Some(s) => s.atom() == strength.atom(),
-            None => true,
-        };
+        let in_zone = self.zone.is_none_or(|z| z == zone);
+        let as_strong = self.strength.is_none_or(|s| s == strength);
         in_zone && as_strong
     }
 }
@@ -97,12 +87,10 @@ impl Rule {
 pub fn first_fit(rules: &[Rule], zone: Zone, strength: Strength) -> Option<Label>
     ensures { result ≡ first_fit rules.now zone strength }
 {
-    for rule in rules {
-        if rule.fits(zone, strength) {
-            return Some(rule.label);
-        }
-    }
-    None
+    rules
+        .iter()
+        .find(|rule| rule.fits(zone, strength))
+        .map(|rule| rule.label)
 }
 
 // What an echo is taken for by the rules of the instrument. One that no rule explains is a flaw.

@@ -16,9 +16,6 @@ use Rattle.cycles.proofs.RankLaws.{bound_inside, start_bound, way_before}
 
 -- One round, cell by cell.
 module _ (h : Heap) (n : ℕ) where
-  pub round_none : (s : ℕ → Bool) → Round h 0 n s s
-  round_none s = record { kept = λ i e. e; added = λ i j lt l k e. absurd (omega arith); sound = λ k f. f }
-
   pub round_skip : (m : ℕ) (s u : ℕ → Bool) → Round h m n s u → (u m ≡ true) ⊎ LeadsPast h n m u → Round h (m + 1) n s u
   round_skip m s u r f =
       record {

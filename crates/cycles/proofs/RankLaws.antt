@@ -1,19 +1,14 @@
 -- Ranks that never fall along a lead show that no cell before c lies on a cycle, where the cells before c lead only to higher ranks.
-use Rattle.std.proofs.Common.{◌≡◌, ℕ, ◌<◌, ◌≤◌, true, false, ◌⊎◌, ◌↔◌, List, length, sym, refl, ap, ◌∙◌, subst, inl, inr, arith}
+use Rattle.std.proofs.Common.{◌≡◌, ℕ, ◌+◌, ◌<◌, ◌≤◌, true, false, ◌⊎◌, List, length, Option, Some, None, MatchOption, sym, refl, ap, ◌∙◌, subst, inl, inr, arith}
 use Rattle.std.proofs.lemmas.Bool.{both_ways, cases_lt, eq-eqb}
 use Rattle.cells.specs.declared.cell.Cell.{Cell}
 use Rattle.tables.specs.Tables.{Tables, used}
-use Rattle.heaps.specs.Leads.{Heap, heap_of, LeadsBy, refers_to, unbound, Leads, Way, step, more}
+use Rattle.heaps.specs.Leads.{Heap, heap_of, refers_to, unbound, Leads, Way, step, more}
 use Rattle.heaps.specs.RuleTests.{on_cycle}
 use Rattle.heaps.proofs.RuleTestsBasics.{not_so}
 use Rattle.heaps.proofs.RuleTestsCycles.{cycle_decided}
 use Rattle.heaps.proofs.UnbindLaws.{heap_of_past}
-use Rattle.cycles.specs.Spans.{Between, WordSpans, Spans, RisesBefore, NoneFalls}
-
-pub word_spans : (h : Heap) (n m i : ℕ) (w : Cell) (a b : ℕ) → m ≡ n → w ≡ h i → WordSpans m i w a b → Spans h n i a b
-word_spans h n m i w a b e f s =
-    subst (λ (x : Cell). (j : ℕ) → Between a b j ↔ ((LeadsBy i x j × (refers_to i x ≡ false)) × (j < n))) f
-    (subst (λ (x : ℕ). WordSpans x i w a b) e s)
+use Rattle.cycles.specs.Spans.{NoneBelow, RisesBefore, NoneFalls}
 
 -- A cell that is not in use leads nowhere.
 pub past_unbound : (cells : List Cell) (i : ℕ) → length cells ≤ i → unbound (heap_of cells) i ≡ true
@@ -25,12 +20,6 @@ bound_inside cells i u =
       | inl lt ↦ lt
       | inr le ↦ absurd (both_ways (unbound (heap_of cells) i) u (past_unbound cells i le))
     ]
-
-pub past_spans : (cells : List Cell) (i : ℕ) → length cells ≤ i → Spans (heap_of cells) (length cells) i 0 0
-past_spans cells i le j = (
-  λ f. absurd (let x = f.1 in omega arith),
-  λ l. absurd (both_ways (unbound (heap_of cells) i) l.0.1 (past_unbound cells i le)),
-)
 
 pub start_bound : (h : Heap) {i j : ℕ} → Way h i j → unbound h i ≡ false
 start_bound h (step l) = l.1
@@ -74,3 +63,10 @@ none_before t rank c f r i lt = not_so (on_cycle (heap_of t.heap) (used t) i) (�
 pub way_before : (h : Heap) {i j k : ℕ} → Leads h i j → (j ≡ k) ⊎ Way h j k → Way h i k
 way_before h {i} l (inl e) = subst (λ (x : ℕ). Way h i x) e (step l)
 way_before h l (inr w) = more l w
+
+-- The first cell that leads to a cell of its own rank or of a lower one, as a search of the first m cells finds it.
+pub first_rises : (h : Heap) (n : ℕ) (rank : ℕ → ℕ) (m : ℕ) → m ≡ n → (o : Option ℕ)
+    → MatchOption o ((k : ℕ) → 0 ≤ k → k < m → NoneBelow h n rank k (rank k + 1)) (λ i. (0 ≤ i) × (i < m) × Unit {0} × ((k : ℕ) → 0 ≤ k → k < i → NoneBelow h n rank k (rank k + 1)))
+    → MatchOption o (RisesBefore h n rank n) (λ i. (i < n) × RisesBefore h n rank i)
+first_rises h n rank m e None f = λ i lt j l k. let a = f i (omega arith) (omega arith) j l k in omega arith
+first_rises h n rank m e (Some i) f = (omega (arith, f.1), λ k lt j l q. let a = f.3 k (omega arith) lt j l q in omega arith)

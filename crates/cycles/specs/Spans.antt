@@ -1,8 +1,7 @@
 -- The first cell on a cycle; stretches of cells, ranks of cells, and sets of cells that lead to a cell.
 use Rattle.std.specs.Prelude.{◌≡◌, ℕ, ◌<◌, ◌≤◌, Bool, true, false, ◌⊎◌, ◌↔◌, Option}
-use Rattle.cells.specs.declared.cell.Cell.{Cell}
 use Rattle.tables.specs.Tables.{Tables, used}
-use Rattle.heaps.specs.Leads.{Heap, heap_of, LeadsBy, refers_to, Leads, Way}
+use Rattle.heaps.specs.Leads.{Heap, heap_of, Leads, Way}
 use Rattle.heaps.specs.Reached.{within}
 use Rattle.heaps.specs.RuleTests.{on_cycle, lowest_from}
 
@@ -12,10 +11,6 @@ first_on_cycle t = lowest_from 0 (used t) (on_cycle (heap_of t.heap) (used t))
 -- the cells from a on that are below b
 abbrev pub Between : ℕ → ℕ → ℕ → Type 0
 Between a b j = (a ≤ j) × (j < b)
-
--- These are the cells below n that the word in cell i leads to, unless it is a variable's own reference.
-abbrev pub WordSpans : ℕ → ℕ → Cell → ℕ → ℕ → Type 0
-WordSpans n i w a b = (j : ℕ) → Between a b j ↔ ((LeadsBy i w j × (refers_to i w ≡ false)) × (j < n))
 
 -- These are the cells below n that cell i leads to.
 abbrev pub Spans : Heap → ℕ → ℕ → ℕ → ℕ → Type 0

@@ -1,25 +1,28 @@
--- The work tables of the search as they are made.
-use Rattle.std.specs.Prelude.{◌≡◌, replicate}
+-- The work tables of the search: what the walks noted of a cell, and the tables as they are made.
+use Rattle.std.specs.Prelude.{◌≡◌, ℕ, false, [], replicate, slice_index_or}
 use Rattle.marks.specs.Keepers.{bit_set}
 use Rattle.marks.specs.Sets.{none}
+use Rattle.tables.specs.Stacks.{listed}
 use Rattle.cycles.specs.declared.first.CycleWork.{CycleWork}
-use Rattle.cycles.specs.declared.table.Table.{Table}
+use Rattle.cycles.specs.declared.walk.Note.{Note}
 use Rattle.cycles.specs.declared.walk.Walk.{Walk}
 
--- each cell has the number 0
-abbrev pub Zeros : Table → Type 0
-Zeros t = t.numbers ≡ replicate 4096 0
+abbrev pub nothing : Note
+nothing = record { rank = 0; parent = 0; followed = 0; marked = false }
 
--- no cell is entered, and the first component that is left gets the highest rank
+-- a cell beyond the last has the rank 0 and the parent 0
+abbrev pub rank_of : Walk → ℕ → ℕ
+rank_of w i = (slice_index_or w.notes i nothing).rank
+
+abbrev pub parent_of : Walk → ℕ → ℕ
+parent_of w i = (slice_index_or w.notes i nothing).parent
+
+-- nothing is noted of any cell, no cell waits or is entered, and the first component that is left gets the highest rank
 pub record NewWalk (w : Walk) : Type 0 where
-  pub ranks : Zeros w.ranks
-  pub parents : Zeros w.parents
-  pub followed : Zeros w.followed
-  pub waiting : Zeros w.waiting
-  pub noted : bit_set w.noted.words ≡ none
+  pub notes : w.notes ≡ replicate 4096 nothing
+  pub waiting : listed w.waiting ≡ []
   pub entered : w.entered ≡ 0
   pub rank : w.rank ≡ 8192
-  pub waits : w.waits ≡ 0
 
 pub record NewWork (w : CycleWork) : Type 0 where
   pub walk : NewWalk w.walk

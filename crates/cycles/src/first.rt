@@ -34,13 +34,10 @@ pub fn first_on_cycle(memory: &Memory, work: &mut CycleWork) -> Option<usize>
     ensures { result ≡ first_on_cycle (tables_of memory.now) }
 {
     work.walk.rank_cells(memory);
-    let first = first_level(memory, &work.walk.ranks);
-    if first == memory.used() {
-        return None;
-    }
-    let certain = none_falls(memory, &work.walk.ranks);
-    work.walk.trace(memory, first);
-    if certain && comes_round(memory, &work.walk.parents, first) {
+    let first = first_level(memory, &work.walk)?;
+    let certain = none_falls(memory, &work.walk);
+    work.walk.trace(memory, first as u16);
+    if certain && comes_round(memory, &work.walk, first) {
         return Some(first);
     }
     first_gathered(memory, &mut work.members)

@@ -5,7 +5,6 @@ mod certificate;
 mod first;
 mod leads;
 mod slow;
-mod table;
 mod walk;
 
 pub use first::{CycleWork, first_on_cycle};

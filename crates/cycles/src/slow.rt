@@ -1,4 +1,5 @@
 // The slow search for cells on a cycle, for ranks that show nothing: it gathers the cells that lead to a cell, round by round.
+// Memory and set are both lent, and any mark keeper may be the set.
 ghost use Rattle.std.specs.Prelude.{◌≡◌, ◌<◌, true, false, ◌⊎◌};
 ghost use Rattle.tables.specs.Tables.{used};
 ghost use Rattle.tables.specs.Views.{tables_of};
@@ -15,13 +16,7 @@ fn leads_into<M: Marks>(memory: &Memory, i: usize, members: &M) -> bool
     ensures found { result ≡ true → LeadsInto (heap_of (tables_of memory.now).heap) i (M.Marks.has members.now) }
     ensures missed { result ≡ false → LeadsPast (heap_of (tables_of memory.now).heap) (used (tables_of memory.now)) i (M.Marks.has members.now) }
 {
-    let span = leads(memory, i);
-    for j in span.start..span.end {
-        if members.marked(j as u64) {
-            return true;
-        }
-    }
-    false
+    leads(memory, i).any(|j| members.marked(j as u64))
 }
 
 // Whether cell i is no member, and leads to one.
@@ -29,10 +24,7 @@ fn joins<M: Marks>(memory: &Memory, i: usize, members: &M) -> bool
     ensures found { result ≡ true → LeadsInto (heap_of (tables_of memory.now).heap) i (M.Marks.has members.now) }
     ensures missed { result ≡ false → (M.Marks.has members.now i ≡ true) ⊎ LeadsPast (heap_of (tables_of memory.now).heap) (used (tables_of memory.now)) i (M.Marks.has members.now) }
 {
-    if members.marked(i as u64) {
-        return false;
-    }
-    leads_into(memory, i, members)
+    !members.marked(i as u64) && leads_into(memory, i, members)
 }
 
 // Adds each cell that leads to a member. Tells whether there was one that was no member.
@@ -41,6 +33,7 @@ fn spread_once<M: Marks>(memory: &Memory, members: &mut M) -> bool
     ensures same { result ≡ false → M.Marks.has members.new ≡ M.Marks.has members.old }
 {
     let mut more = false;
+    // the set grows from cell to cell, so this is no `any`
     for i in 0..memory.used() {
         if joins(memory, i, members) {
             members.mark(i as u64);
@@ -58,6 +51,7 @@ fn gather<M: Marks>(memory: &Memory, cell: usize, members: &mut M)
 {
     members.clear();
     members.mark(cell as u64);
+    // a bound: each round but the last adds a cell
     for _turn in 0..memory.used() {
         if !spread_once(memory, members) {
             return;
@@ -78,6 +72,7 @@ fn lies_on_cycle<M: Marks>(memory: &Memory, cell: usize, members: &mut M) -> boo
 pub fn first_gathered<M: Marks>(memory: &Memory, members: &mut M) -> Option<usize>
     ensures { result ≡ first_on_cycle (tables_of memory.now) }
 {
+    // with `find` the proof does not close: the set is filled anew for each cell
     for cell in 0..memory.used() {
         if lies_on_cycle(memory, cell, members) {
             return Some(cell);

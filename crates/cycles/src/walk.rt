@@ -1,33 +1,38 @@
 // Ranks of cells, and a way round a cycle, by walks from cell to cell. Nothing is promised of either: `certificate` checks them.
-ghost use Rattle.cycles.specs.Works.{NewWalk};
+ghost use Rattle.std.specs.Prelude.{◌≡◌, ◌<◌, slice_index_or};
+ghost use Rattle.cycles.specs.Works.{nothing, NewWalk, rank_of, parent_of};
 
 use super::leads::leads;
-use super::table::Table;
-use marks::{BitMarks, Marks};
-use tables::Memory;
+use tables::{Memory, Stack};
 
 // More steps than a walk takes: it enters and leaves each of 4,096 cells once, and a cell leads to at most 63 cells.
 const STEPS: usize = 4096 * 65;
 
 // Components that are left get ranks from here down, which are above the numbers of cells that are entered.
-const HIGHEST: usize = 8192;
+const HIGHEST: u16 = 8192;
 
-// The work tables of the walks: 33,304 bytes.
+// What is noted of a cell.
+#[derive(Clone, Copy, Default)]
+pub struct Note {
+    // 0 for a cell that was not entered (an Option would take more memory); else the lowest number of an entered cell that it
+    // leads back to; in the end the rank
+    rank: u16,
+    // the cell from which it was entered; in the end the cell before it on a way round
+    parent: u16,
+    // how many of its leads were followed
+    followed: u8,
+    // whether it leads back to a cell with a lower number; in the end whether it was seen
+    marked: bool,
+}
+
+// The work tables of the walks: 32,784 bytes.
 #[derive(Drop)]
 pub struct Walk {
-    // 0 for a cell that was not entered; else the lowest number of an entered cell that it leads back to; in the end the rank
-    pub ranks: Table,
-    // the cell from which each was entered; in the end the cell before each on a way round
-    pub parents: Table,
-    // how many leads of each cell were followed
-    followed: Table,
+    notes: [Note; 4096],
     // cells that were left and have no rank yet, or cells to look at
-    waiting: Table,
-    // cells that lead back to one with a lower number, or cells that were seen
-    noted: BitMarks,
-    entered: usize,
-    rank: usize,
-    waits: usize,
+    waiting: Stack<u16, 4096>,
+    entered: u16,
+    rank: u16,
 }
 
 impl Walk {
@@ -35,39 +40,56 @@ impl Walk {
         ensures { NewWalk result }
     {
         Walk {
-            ranks: Table::new(),
-            parents: Table::new(),
-            followed: Table::new(),
-            waiting: Table::new(),
-            noted: BitMarks::new(),
+            notes: [Note::default(); 4096],
+            waiting: Stack::new(0),
             entered: 0,
             rank: HIGHEST,
-            waits: 0,
         }
+    }
+
+    // What is noted of a cell; the blank note beyond the last. Numbers beyond the last do not come up;
+    // nothing is promised of the walk, so this needs no `requires`.
+    fn note(&self, cell: usize) -> Note
+        ensures { result ≡ slice_index_or self.now.notes cell nothing }
+    {
+        self.notes.get(cell).copied().unwrap_or_default()
+    }
+
+    // The rank of a cell, or 0 beyond the last.
+    pub fn rank(&self, cell: usize) -> usize
+        ensures rank { result ≡ rank_of self.now cell }
+        ensures small { result < 65536 }
+    {
+        usize::from(self.note(cell).rank)
+    }
+
+    // The parent of a cell, or 0 beyond the last.
+    pub fn parent(&self, cell: usize) -> usize
+        ensures { result ≡ parent_of self.now cell }
+    {
+        usize::from(self.note(cell).parent)
     }
 
     // Gives each cell the rank of its component: cells that lead to each other have the same, other leads go to a higher rank.
     pub fn rank_cells(&mut self, memory: &Memory) {
-        self.ranks.clear();
-        self.followed.clear();
-        self.noted.clear();
+        self.notes = [Note::default(); 4096];
+        self.waiting.truncate(0);
         self.entered = 0;
         self.rank = HIGHEST;
-        self.waits = 0;
-        for root in 0..memory.used() {
-            if self.ranks.get(root) == 0 {
+        for root in 0..memory.used() as u16 {
+            if self.rank(usize::from(root)) == 0 {
                 self.walk_from(memory, root);
             }
         }
     }
 
-    fn walk_from(&mut self, memory: &Memory, root: usize) {
+    fn walk_from(&mut self, memory: &Memory, root: u16) {
         self.enter(root, root);
         let mut at = root;
         for _step in 0..STEPS {
             match self.next_lead(memory, at) {
                 Some(next) => {
-                    let number = self.ranks.get(next);
+                    let number = self.note(usize::from(next)).rank;
                     if number == 0 {
                         self.enter(next, at);
                         at = next;
@@ -80,90 +102,105 @@ impl Walk {
                     if at == root {
                         return;
                     }
-                    let number = self.ranks.get(at);
-                    at = self.parents.get(at);
-                    self.lower(at, number);
+                    let left = self.note(usize::from(at));
+                    at = left.parent;
+                    self.lower(at, left.rank);
                 }
             }
         }
     }
 
-    fn enter(&mut self, cell: usize, parent: usize) {
+    fn enter(&mut self, cell: u16, parent: u16) {
         self.entered = self.entered.wrapping_add(1);
-        let number = self.entered;
-        self.ranks.set(cell, number);
-        self.parents.set(cell, parent);
+        if let Some(note) = self.notes.get_mut(usize::from(cell)) {
+            note.rank = self.entered;
+            note.parent = parent;
+        }
     }
 
-    fn next_lead(&mut self, memory: &Memory, at: usize) -> Option<usize> {
-        let span = leads(memory, at);
-        let done = self.followed.get(at);
-        let next = span.start.wrapping_add(done);
+    // The cell that comes next of those that a cell leads to.
+    fn next_lead(&mut self, memory: &Memory, at: u16) -> Option<u16> {
+        let note = self.notes.get_mut(usize::from(at))?;
+        let span = leads(memory, usize::from(at));
+        let next = span.start + usize::from(note.followed);
         if next < span.end {
-            self.followed.set(at, done.wrapping_add(1));
-            Some(next)
+            note.followed = note.followed.wrapping_add(1);
+            Some(next as u16)
         } else {
             None
         }
     }
 
     // The cell leads back to one with that number.
-    fn lower(&mut self, cell: usize, number: usize) {
-        if number < self.ranks.get(cell) {
-            self.ranks.set(cell, number);
-            self.noted.mark(cell as u64);
+    fn lower(&mut self, cell: u16, number: u16) {
+        if let Some(note) = self.notes.get_mut(usize::from(cell)) {
+            if number < note.rank {
+                note.rank = number;
+                note.marked = true;
+            }
         }
     }
 
-    // A cell that leads back to none with a lower number completes its component.
-    fn leave(&mut self, cell: usize) {
-        if self.noted.marked(cell as u64) {
-            let place = self.waits;
-            self.waiting.set(place, cell);
-            self.waits = place.wrapping_add(1);
+    // A cell that leads back to none with a lower number completes its component, whose members wait last.
+    fn leave(&mut self, cell: u16) {
+        let left = self.note(usize::from(cell));
+        self.wait(cell);
+        if left.marked {
             return;
         }
-        let number = self.ranks.get(cell);
-        let rank = self.rank;
-        for _left in 0..self.waits {
-            let place = self.waits.wrapping_sub(1);
-            let member = self.waiting.get(place);
-            if self.ranks.get(member) < number {
+        let mut others = self.waiting.len();
+        // with `rposition` the proof does not close: its closure reads the notes of `self` while the list of `self` is lent
+        for place in (0..self.waiting.len()).rev() {
+            let member = self.waiting.at(place);
+            if self.note(usize::from(member)).rank < left.rank {
                 break;
             }
-            self.ranks.set(member, rank);
-            self.waits = place;
+            if let Some(note) = self.notes.get_mut(usize::from(member)) {
+                note.rank = self.rank;
+            }
+            others = place;
         }
-        self.ranks.set(cell, rank);
-        self.rank = rank.wrapping_sub(1);
+        self.waiting.truncate(others);
+        self.rank = self.rank.wrapping_sub(1);
     }
 
-    // Looks from a cell over the cells of its rank until one leads back to it, and leaves in `parents` the way there.
-    pub fn trace(&mut self, memory: &Memory, cell: usize) {
-        self.noted.clear();
-        self.waiting.set(0, cell);
-        self.waits = 1;
+    // There is room, since a cell waits once: the `if` only shows it.
+    fn wait(&mut self, cell: u16) {
+        if self.waiting.len() < 4096 {
+            self.waiting.push(cell);
+        }
+    }
+
+    // Looks from a cell over the cells of its rank that it reaches, until the list is through, and leaves in `parent` the way
+    // to each, and back to the cell itself if one of them leads to it.
+    pub fn trace(&mut self, memory: &Memory, cell: u16) {
+        for note in self.notes.iter_mut() {
+            note.marked = false;
+        }
+        self.waiting.truncate(0);
+        self.wait(cell);
+        // the list grows while it is gone through, so no iterator is held over it
         for place in 0..4096 {
-            if place >= self.waits {
+            if place >= self.waiting.len() {
                 return;
             }
-            let at = self.waiting.get(place);
-            let span = leads(memory, at);
-            for next in span.start..span.end {
-                self.see(cell, at, next);
+            let at = self.waiting.at(place);
+            for next in leads(memory, usize::from(at)) {
+                self.see(cell, at, next as u16);
             }
         }
     }
 
     // Cell `at` leads to cell `next`.
-    fn see(&mut self, cell: usize, at: usize, next: usize) {
-        if self.ranks.get(next) == self.ranks.get(cell) && !self.noted.marked(next as u64) {
-            self.noted.mark(next as u64);
-            self.parents.set(next, at);
-            if next != cell {
-                let place = self.waits;
-                self.waiting.set(place, next);
-                self.waits = place.wrapping_add(1);
+    fn see(&mut self, cell: u16, at: u16, next: u16) {
+        let rank = self.note(usize::from(cell)).rank;
+        if let Some(note) = self.notes.get_mut(usize::from(next)) {
+            if note.rank == rank && !note.marked {
+                note.marked = true;
+                note.parent = at;
+                if next != cell {
+                    self.wait(next);
+                }
             }
         }
     }

@@ -1,7 +1,7 @@
 -- A search that stops at the first place at fault finds the lowest, and a search of a whole part tells whether there is one.
-use Rattle.std.proofs.Common.{◌≡◌, ℕ, zero, suc, ◌+◌, ◌<◌, ◌≤◌, Bool, true, false, List, [], ◌∷◌, length, get_or, Some, None, Option, sym, refl, ap, ◌∙◌, subst, inl, inr, arith}
+use Rattle.std.proofs.Common.{◌≡◌, ℕ, zero, suc, ◌+◌, ◌<◌, ◌≤◌, Bool, true, false, List, [], ◌∷◌, length, get_or, Some, None, Option, sym, refl, subst, inl, inr, arith}
 use Rattle.std.proofs.lemmas.Bool.{cases_eq, or_from, or_left, or_right}
-use Rattle.heaps.specs.RuleTests.{lowest_from, plus_line, or_else, any_of}
+use Rattle.heaps.specs.RuleTests.{lowest_from, or_else, any_of}
 use Rattle.heaps.proofs.RuleTestsLowest.{least_lowest}
 
 module _ (p : ℕ → Bool) (n : ℕ) where
@@ -25,18 +25,6 @@ module _ {A : Type 0} (p : A → Bool) where
   any_not [] d f = refl
   any_not (x ∷ xs) d f = or_from (p x) (any_of p xs) (f 0 (omega arith)) (any_not xs d (λ i lt. f (suc i) (omega arith)))
 
-pub in_only : (l a : ℕ) (x r : Option ℕ) → l ≡ a → r ≡ plus_line l x → r ≡ or_else (plus_line a x) None
-in_only l a x r e h = h ∙ ap (λ (k : ℕ). plus_line k x) e ∙ sym (or_none (plus_line a x))
-
--- Of two parts the first has no place at fault.
-pub in_second : (l m a b : ℕ) (x y r : Option ℕ) → l ≡ a → m ≡ b → None ≡ plus_line l x → r ≡ plus_line m y
-    → r ≡ or_else (plus_line a x) (or_else (plus_line b y) None)
-in_second l m a b x y r e f g h =
-    h
-    ∙ ap (λ (k : ℕ). plus_line k y) f
-    ∙ sym (or_none (plus_line b y))
-    ∙ ap (λ (o : Option ℕ). or_else o (or_else (plus_line b y) None)) (g ∙ ap (λ (k : ℕ). plus_line k x) e)
-
 -- What holds of the k numbers from a on and of the next holds of one number more.
 pub stretch_more : (p : ℕ → Bool) (a k m : ℕ) → ((j : ℕ) → a ≤ j → j < a + k → p j ≡ false) → m ≡ a + k → p m ≡ false
     → (j : ℕ) → a ≤ j → j < a + (k + 1) → p j ≡ false
@@ -45,10 +33,3 @@ stretch_more p a k m f e here j le lt =
       | inl q ↦ subst (λ (x : ℕ). p x ≡ false) (sym q) here
       | inr q ↦ f j le (omega arith)
     ]
-
-module _ (first : ℕ) (p : ℕ → Bool) (n : ℕ) where
-  pub part_found : (line k : ℕ) → line ≡ first → k < n → p k ≡ true → ((i : ℕ) → i < k → p i ≡ false) → Some (line + k) ≡ or_else (plus_line first (lowest_from 0 n p)) None
-  part_found line k same lt e f = ap (λ (l : ℕ). Some (l + k)) same ∙ sym (ap (λ (o : Option ℕ). or_else (plus_line first o) None) (lowest_found p n k lt e f))
-
-  pub part_none : ((i : ℕ) → i < n → p i ≡ false) → None ≡ or_else (plus_line first (lowest_from 0 n p)) None
-  part_none f = sym (ap (λ (o : Option ℕ). or_else (plus_line first o) None) (lowest_none p n f))

@@ -2,21 +2,27 @@
 // was expected. docs/IMAGES.md, "Test cases", says how cases are written.
 #![tactic(auto)]
 
-use std::alloc::{AllocError, Global};
+ghost use Rattle.std.specs.Prelude.{◌<◌, IfSome};
+
+use loading::{Numbers, describe, describe_whole};
+use std::alloc::{AllocError, AllocFailed, Global};
 use std::io;
 use std::io::Read;
-
-mod answer;
-
-use answer::{Answer, described, described_whole};
+use std::ops::Range;
 
 // A line of the data.
 #[derive(Drop)]
 enum Entry<'a> {
-    // an empty line or a comment
+    // an empty line or a comment, which is read well, unlike a line for which read_entry answers None
     Nothing,
     // the name of a case, with which it begins
     Name(&'a str),
+    Part(Part<'a>),
+}
+
+// What a line says of a case.
+#[derive(Drop)]
+enum Part<'a> {
     Wanted(Wanted),
     // a line of the image for each number of a span
     Lines(Lines<'a>),
@@ -27,16 +33,15 @@ enum Entry<'a> {
 // What is to be said of an image.
 #[derive(Clone, Copy)]
 enum Wanted {
-    Described(Answer),
+    Described(Numbers),
     // the image may be of any length
-    Whole(Answer),
+    Whole(Numbers),
 }
 
-// The numbers from `start` on that are below `end`. In the pattern `%` stands for the number, `&` for the one after it.
+// In the pattern `%` stands for each of the numbers in turn, `&` for the one after it.
 #[derive(Drop)]
 struct Lines<'a> {
-    start: u64,
-    end: u64,
+    numbers: Range<u64>,
     pattern: &'a str,
 }
 
@@ -51,41 +56,56 @@ struct Case {
     image: Vec<u8>,
 }
 
-// How far the escape of a byte has come.
-#[derive(Clone, Copy)]
-enum Escape {
-    Outside,
-    Begun,
-    Half(u8),
-}
-
-// How many cases came out as expected and how many did not, and how many lines of the data were not read.
+// The case whose lines are being read, how many cases came out as expected and how many did not, and how many lines of the
+// data were not read.
 #[derive(Drop)]
-struct Tally {
+struct Run {
+    case: Option<Case>,
     right: u64,
     wrong: u64,
     unread: u64,
 }
 
-// Six numbers with one space between.
-fn read_answer(text: &str) -> Option<Answer> {
-    let mut numbers = [0; 6];
-    let mut count = 0;
-    for word in text.split(' ') {
-        if count >= 6 {
-            return None;
-        }
-        numbers[count] = word.parse::<u64>().ok()?;
-        count += 1;
-    }
-    if count == 6 {
-        Some(Answer(numbers))
-    } else {
-        None
+// Why a line of the data is not taken.
+#[derive(Drop)]
+enum LineError {
+    // it cannot be read, or says what was said already
+    NotRead,
+    Io(io::Error),
+}
+
+impl From<io::Error> for LineError {
+    fn from(error: io::Error) -> LineError {
+        LineError::Io(error)
     }
 }
 
-// The first number, the last and the pattern, with one space between.
+impl From<AllocError> for LineError {
+    fn from(error: AllocError) -> LineError {
+        LineError::Io(io::Error::from(error))
+    }
+}
+
+impl<T: Drop> From<AllocFailed<T>> for LineError {
+    fn from(failed: AllocFailed<T>) -> LineError {
+        LineError::Io(io::Error::from(failed))
+    }
+}
+
+// Six numbers with one space between. No TryFrom: an error would have nothing to say.
+fn read_numbers(text: &str) -> Option<Numbers> {
+    let mut words = text.split(' ');
+    let mut numbers = [0; 6];
+    for number in numbers.iter_mut() {
+        *number = words.next()?.parse::<u64>().ok()?;
+    }
+    match words.next() {
+        None => Some(Numbers(numbers)),
+        Some(_) => None,
+    }
+}
+
+// The first number, the last and the pattern, with one space between. No TryFrom: an error would have nothing to say.
 fn read_lines<'a>(text: &'a str) -> Option<Lines<'a>> {
     let (first, rest) = text.split_once(' ')?;
     let (last, pattern) = rest.split_once(' ')?;
@@ -95,31 +115,37 @@ fn read_lines<'a>(text: &'a str) -> Option<Lines<'a>> {
         return None;
     }
     Some(Lines {
-        start,
-        end: last + 1,
+        numbers: start..last + 1,
         pattern,
     })
 }
 
+// No TryFrom: an error would have nothing to say.
 fn read_entry<'a>(line: &'a str) -> Option<Entry<'a>> {
     if line.is_empty() || line.starts_with('#') {
-        Some(Entry::Nothing)
-    } else if let Some(name) = line.strip_prefix("= ") {
-        Some(Entry::Name(name))
-    } else if let Some(numbers) = line.strip_prefix("> ") {
-        Some(Entry::Wanted(Wanted::Described(read_answer(numbers)?)))
-    } else if let Some(numbers) = line.strip_prefix(">> ") {
-        Some(Entry::Wanted(Wanted::Whole(read_answer(numbers)?)))
-    } else if let Some(lines) = line.strip_prefix("* ") {
-        Some(Entry::Lines(read_lines(lines)?))
-    } else if line.starts_with('=') || line.starts_with('>') || line.starts_with('*') {
-        None
-    } else {
-        Some(Entry::Line(line))
+        return Some(Entry::Nothing);
     }
+    if let Some(name) = line.strip_prefix("= ") {
+        return Some(Entry::Name(name));
+    }
+    let part = if let Some(numbers) = line.strip_prefix("> ") {
+        Part::Wanted(Wanted::Described(read_numbers(numbers)?))
+    } else if let Some(numbers) = line.strip_prefix(">> ") {
+        Part::Wanted(Wanted::Whole(read_numbers(numbers)?))
+    } else if let Some(lines) = line.strip_prefix("* ") {
+        Part::Lines(read_lines(lines)?)
+    } else if line.starts_with(['=', '>', '*']) {
+        return None;
+    } else {
+        Part::Line(line)
+    };
+    Some(Entry::Part(part))
 }
 
-fn hex_digit(b: u8) -> Option<u8> {
+// Small letters alone, where char::to_digit would take large ones too.
+fn hex_digit(b: u8) -> Option<u8>
+    ensures { IfSome result (λ d. d < 16) }
+{
     match b {
         b'0'..=b'9' => Some(b - b'0'),
         b'a'..=b'f' => Some(b - b'a' + 10),
@@ -127,34 +153,30 @@ fn hex_digit(b: u8) -> Option<u8> {
     }
 }
 
+// The byte that two hexadecimal digits stand for.
+fn hex_byte(high: u8, low: u8) -> Option<u8> {
+    Some(hex_digit(high)? * 16 + hex_digit(low)?)
+}
+
 // Appends a line to an image, with its byte 10. `\` and two hexadecimal digits stand for a byte; `\` at the end leaves out
-// the byte 10. False where an escape cannot be read.
-fn add_line(image: &mut Vec<u8>, line: &[u8]) -> Result<bool, AllocError> {
-    let mut escape = Escape::Outside;
-    for b in line {
-        escape = match (escape, hex_digit(*b)) {
-            (Escape::Outside, _) => {
-                if *b == b'\\' {
-                    Escape::Begun
-                } else {
-                    image.push(*b)?;
-                    Escape::Outside
-                }
+// the byte 10.
+fn add_line(image: &mut Vec<u8>, line: &[u8]) -> Result<(), LineError> {
+    let mut rest = line;
+    loop {
+        rest = match rest {
+            [] => return Ok(image.push(b'\n')?),
+            [b'\\'] => return Ok(()),
+            [b'\\', high, low, rest @ ..] => {
+                image.push(hex_byte(*high, *low).ok_or(LineError::NotRead)?)?;
+                rest
             }
-            (Escape::Begun, Some(digit)) => Escape::Half(digit),
-            (Escape::Half(high), Some(low)) => {
-                image.push(high.wrapping_mul(16) | low)?;
-                Escape::Outside
+            [b'\\', _] => return Err(LineError::NotRead),
+            [b, rest @ ..] => {
+                image.push(*b)?;
+                rest
             }
-            _ => return Ok(false),
         };
     }
-    match escape {
-        Escape::Outside => image.push(10)?,
-        Escape::Begun => {}
-        Escape::Half(_) => return Ok(false),
-    }
-    Ok(true)
 }
 
 // The pattern with n for each `%` and the number after it for each `&`.
@@ -172,100 +194,101 @@ fn filled(heap: Global, pattern: &str, n: u64) -> Result<String, AllocError> {
     Ok(line)
 }
 
-fn add_lines(heap: Global, image: &mut Vec<u8>, lines: Lines) -> Result<bool, AllocError> {
-    for n in lines.start..lines.end {
+fn add_lines(heap: Global, image: &mut Vec<u8>, lines: Lines) -> Result<(), LineError> {
+    for n in lines.numbers {
         let line = filled(heap, lines.pattern, n)?;
-        if !add_line(image, line.as_bytes())? {
-            return Ok(false);
-        }
+        add_line(image, line.as_bytes())?;
     }
-    Ok(true)
+    Ok(())
 }
 
 impl Case {
-    // Takes a line of the data. False where it cannot be read, or where something is wanted of the case already.
-    fn take(&mut self, heap: Global, entry: Entry) -> Result<bool, AllocError> {
-        match entry {
-            Entry::Nothing => Ok(true),
-            Entry::Name(_) => Ok(false),
-            Entry::Wanted(wanted) => Ok(self.wanted.replace(wanted).is_none()),
-            Entry::Lines(lines) => add_lines(heap, &mut self.image, lines),
-            Entry::Line(line) => add_line(&mut self.image, line.as_bytes()),
-        }
-    }
-
-    // Prints what came of the case.
-    fn close(self, rt: &HostRuntime, tally: &mut Tally) -> io::Result<()> {
-        let wanted = self.wanted;
-        let name = self.name.as_str();
-        let image = self.image.as_slice();
-        let (got, wanted) = match wanted {
-            Some(Wanted::Described(wanted)) => (described(image), wanted),
-            Some(Wanted::Whole(wanted)) => (described_whole(image), wanted),
-            None => {
-                tally.wrong = tally.wrong.saturating_add(1);
-                return println!(rt; "{name}: NOTHING WANTED");
-            }
-        };
-        if got == wanted {
-            tally.right = tally.right.saturating_add(1);
-            println!(rt; "{name}: {got} ok")
-        } else {
-            tally.wrong = tally.wrong.saturating_add(1);
-            println!(rt; "{name}: {got} DIFFERS, wanted {wanted}")
+    fn take(&mut self, heap: Global, part: Part) -> Result<(), LineError> {
+        match part {
+            Part::Wanted(wanted) => match self.wanted.replace(wanted) {
+                None => Ok(()),
+                Some(_) => Err(LineError::NotRead),
+            },
+            Part::Lines(lines) => add_lines(heap, &mut self.image, lines),
+            Part::Line(line) => add_line(&mut self.image, line.as_bytes()),
         }
     }
 }
 
-// Takes a line of the data. A name closes the case before it and begins the next. False where the line cannot be read.
-fn take_line(
-    rt: &HostRuntime,
-    case: &mut Option<Case>,
-    tally: &mut Tally,
-    line: &str,
-) -> io::Result<bool> {
-    let Some(entry) = read_entry(line) else {
-        return Ok(false);
-    };
-    if let Entry::Name(name) = entry {
-        if let Some(done) = case.take() {
-            done.close(rt, tally)?;
+impl Run {
+    // Takes a line of the data. A name closes the case before it and begins the next.
+    fn take(&mut self, rt: &HostRuntime, line: &str) -> Result<(), LineError> {
+        match read_entry(line).ok_or(LineError::NotRead)? {
+            Entry::Nothing => Ok(()),
+            Entry::Name(name) => {
+                self.close(rt)?;
+                self.case = Some(Case {
+                    name: String::from_str(rt.alloc(), name)?,
+                    wanted: None,
+                    image: Vec::new(rt.alloc()),
+                });
+                Ok(())
+            }
+            Entry::Part(part) => {
+                let case = self.case.as_mut().ok_or(LineError::NotRead)?;
+                case.take(rt.alloc(), part)
+            }
         }
-        let name = String::from_str(rt.alloc(), name)?;
-        let image = Vec::new(rt.alloc());
-        *case = Some(Case {
-            name,
-            wanted: None,
-            image,
-        });
-        return Ok(true);
     }
-    match case {
-        Some(case) => Ok(case.take(rt.alloc(), entry)?),
-        None => Ok(matches!(entry, Entry::Nothing)),
+
+    // Prints what came of the case whose lines were read.
+    fn close(&mut self, rt: &HostRuntime) -> io::Result<()> {
+        let Some(
+            Case {
+                name,
+                wanted,
+                image,
+            },
+        ) = self.case.take()
+        else {
+            return Ok(());
+        };
+        let image = image.as_slice();
+        let (described, wanted) = match wanted {
+            Some(Wanted::Described(wanted)) => (describe(image), wanted),
+            Some(Wanted::Whole(wanted)) => (describe_whole(image), wanted),
+            None => {
+                self.wrong = self.wrong.saturating_add(1);
+                return println!(rt; "{name}: NOTHING WANTED");
+            }
+        };
+        let got = Numbers::from(described);
+        if got == wanted {
+            self.right = self.right.saturating_add(1);
+            println!(rt; "{name}: {got} ok")
+        } else {
+            self.wrong = self.wrong.saturating_add(1);
+            println!(rt; "{name}: {got} DIFFERS, wanted {wanted}")
+        }
     }
 }
 
 fn main(rt: HostRuntime) -> io::Result<()> {
     let mut text = String::new(rt.alloc());
     rt.stdin().read_to_string(&mut text)?;
-    let mut tally = Tally {
+    let mut run = Run {
+        case: None,
         right: 0,
         wrong: 0,
         unread: 0,
     };
-    let mut case = None;
-    let mut number: u64 = 0;
-    for line in text.as_str().lines() {
-        number = number.saturating_add(1);
-        if !take_line(&rt, &mut case, &mut tally, line)? {
-            tally.unread = tally.unread.saturating_add(1);
-            println!(rt; "line {number} NOT READ: {line}")?;
+    for (i, line) in text.as_str().lines().enumerate() {
+        match run.take(&rt, line) {
+            Ok(()) => {}
+            Err(LineError::NotRead) => {
+                run.unread = run.unread.saturating_add(1);
+                let number = i + 1;
+                println!(rt; "line {number} NOT READ: {line}")?;
+            }
+            Err(LineError::Io(error)) => return Err(error),
         }
     }
-    if let Some(done) = case {
-        done.close(&rt, &mut tally)?;
-    }
-    let (right, wrong, unread) = (tally.right, tally.wrong, tally.unread);
+    run.close(&rt)?;
+    let (right, wrong, unread) = (run.right, run.wrong, run.unread);
     println!(rt; "{right} ok, {wrong} not ok, {unread} lines not read")
 }

@@ -2,7 +2,7 @@
 // refusal, broken rule, line, and the cells, trail entries and choice points in use.
 #![tactic(auto)]
 
-use loading::describe;
+use loading::{Numbers, describe};
 use std::io;
 use std::io::Read;
 
@@ -10,8 +10,6 @@ fn main(rt: HostRuntime) -> io::Result<()> {
     let mut image = Vec::new(rt.alloc());
     // One byte more than is looked at tells that an image is too long.
     rt.stdin().take(65_537).read_to_end(&mut image)?;
-    let r = describe(image.as_slice());
-    let (refusal, rule, line) = (r.refusal, r.rule, r.line);
-    let (used, entries, points) = (r.used, r.entries, r.points);
-    println!(rt; "{refusal} {rule} {line} {used} {entries} {points}")
+    let numbers = Numbers::from(describe(image.as_slice()));
+    println!(rt; "{numbers}")
 }

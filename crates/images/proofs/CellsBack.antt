@@ -1,18 +1,19 @@
 -- A cell in range comes back from the two words of its kind and value, and the words from the cell that they are read as.
-use Rattle.std.proofs.Common.{◌≡◌, ℕ, ◌/◌, ◌%◌, ◌^◌, ◌<◌, ◌≤◌, true, cond, eqb, leb, List, [], ◌∷◌, length, ℤ, pos, negsuc, Some, None, codes, decimal, Option, refl, ap, ◌∙◌, ap₂, arith}
+use Rattle.std.proofs.Common.{◌≡◌, ℕ, ◌/◌, ◌%◌, ◌^◌, ◌<◌, ◌≤◌, true, cond, eqb, leb, List, [], ◌∷◌, ℤ, pos, negsuc, Some, None, codes, decimal, Option, refl, ap, ◌∙◌, ap₂, arith}
+use Rattle.std.specs.Option.{option_map}
 use Rattle.std.proofs.lemmas.Bool.{and_parts, cond-true, eqb-true, leb-true, ltb-true}
 use Rattle.cells.specs.declared.cell.Cell.{Cell}
 use Rattle.cells.specs.declared.cell.Cell.TheVariants.{Reference, Pointer, Functor, Atom, Integer}
 use Rattle.cells.specs.Cells.{in_range, functor_value}
 use Rattle.lines.specs.declared.word.Kind.{Kind}
 use Rattle.lines.specs.declared.word.Kind.TheVariants as kind
-use Rattle.lines.specs.Words.{natural, integer, kind_of, letter}
-use Rattle.lines.specs.Lines.{mapped, cell_by, ranged, cell_in, limited, number_in}
+use Rattle.lines.specs.Words.{natural64, integer64, kind_of, letter}
+use Rattle.lines.specs.Lines.{cell_by, ranged, cell_in, limited, number_in}
 use Rattle.images.specs.Text.{kind_text, value_text}
 use Rattle.lines.proofs.Options.{not_some, or_from}
 use Rattle.images.proofs.InPlace.{ranged_parts, limited_parts}
 use Rattle.images.proofs.Pieces.{Word}
-use Rattle.images.proofs.NumbersBack.{Small, natural_decimal, decimal_natural, integer_signed, signed_integer, word_decimal, word_signed}
+use Rattle.images.proofs.NumbersBack.{Small, small_64, natural64_decimal, decimal_natural64, integer64_signed, signed_integer64, word_decimal, word_signed}
 
 -- letters
 
@@ -71,58 +72,58 @@ value_word (Functor name arity) h = word_decimal (functor_value name arity) (fun
 value_word (Atom n) h = word_decimal n (omega (arith, ltb-true n 65536 h))
 value_word (Integer z) h = word_signed z (small z h)
 
-pub cell_read : (c : Cell) → in_range c ≡ true → cell_in (letter (kind_text c)) (natural (value_text c)) (integer (value_text c)) ≡ Some c
-cell_read (Reference n) h = ap (λ o. ranged (mapped Reference o)) (natural_decimal n (omega (arith, ltb-true n 4096 h))) ∙ cond-true _ _ _ h
-cell_read (Pointer n) h = ap (λ o. ranged (mapped Pointer o)) (natural_decimal n (omega (arith, ltb-true n 4096 h))) ∙ cond-true _ _ _ h
+pub cell_read : (c : Cell) → in_range c ≡ true → cell_in (letter (kind_text c)) (natural64 (value_text c)) (integer64 (value_text c)) ≡ Some c
+cell_read (Reference n) h = ap (λ o. ranged (option_map Reference o)) (natural64_decimal n (omega (arith, ltb-true n 4096 h))) ∙ cond-true _ _ _ h
+cell_read (Pointer n) h = ap (λ o. ranged (option_map Pointer o)) (natural64_decimal n (omega (arith, ltb-true n 4096 h))) ∙ cond-true _ _ _ h
 cell_read (Functor name arity) h =
-    ap (λ o. ranged (mapped (λ v. Functor (v / 64) (v % 64)) o)) (natural_decimal (functor_value name arity) (omega (arith, functor_low name arity h)))
+    ap (λ o. ranged (option_map (λ v. Functor (v / 64) (v % 64)) o)) (natural64_decimal (functor_value name arity) (omega (arith, functor_low name arity h)))
     ∙ ap (λ c. ranged (Some c)) (functor_back name arity h) ∙ cond-true _ _ _ h
-cell_read (Atom n) h = ap (λ o. ranged (mapped Atom o)) (natural_decimal n (omega (arith, ltb-true n 65536 h))) ∙ cond-true _ _ _ h
-cell_read (Integer z) h = ap (λ o. ranged (mapped Integer o)) (integer_signed z (small z h)) ∙ cond-true _ _ _ h
+cell_read (Atom n) h = ap (λ o. ranged (option_map Atom o)) (natural64_decimal n (omega (arith, ltb-true n 65536 h))) ∙ cond-true _ _ _ h
+cell_read (Integer z) h = ap (λ o. ranged (option_map Integer o)) (integer64_signed z (small_64 z (small z h))) ∙ cond-true _ _ _ h
 
-mapped_parts : {A B : Type 0} (f : A → B) (o : Option A) (y : B) → mapped f o ≡ Some y → (x : A) × (o ≡ Some x) × (f x ≡ y)
+mapped_parts : {A B : Type 0} (f : A → B) (o : Option A) (y : B) → option_map f o ≡ Some y → (x : A) × (o ≡ Some x) × (f x ≡ y)
 mapped_parts f None y e = absurd (not_some e)
 mapped_parts f (Some x) y e = (x, refl, cc)
 
-module _ (v : List ℕ) (short : length v ≤ 10) where
-  by_natural : (f : ℕ → Cell) → ((n : ℕ) → decimal n ≡ value_text (f n)) → (c : Cell) → mapped f (natural v) ≡ Some c → v ≡ value_text c
+module _ (v : List ℕ) where
+  by_natural : (f : ℕ → Cell) → ((n : ℕ) → decimal n ≡ value_text (f n)) → (c : Cell) → option_map f (natural64 v) ≡ Some c → v ≡ value_text c
   by_natural f is c e =
-      let m = mapped_parts f (natural v) c e in
-      decimal_natural v m.0 short m.1 ∙ is m.0 ∙ ap value_text m.2
+      let m = mapped_parts f (natural64 v) c e in
+      (decimal_natural64 v m.0 m.1).0 ∙ is m.0 ∙ ap value_text m.2
 
-  value_back : (k : Kind) (c : Cell) → cell_by k (natural v) (integer v) ≡ Some c → (letter_of k ≡ kind_text c) × (v ≡ value_text c)
-  value_back kind.Reference c e = (ap kind_text (mapped_parts Reference (natural v) c e).2, by_natural Reference (λ n. refl) c e)
-  value_back kind.Pointer c e = (ap kind_text (mapped_parts Pointer (natural v) c e).2, by_natural Pointer (λ n. refl) c e)
+  value_back : (k : Kind) (c : Cell) → cell_by k (natural64 v) (integer64 v) ≡ Some c → (letter_of k ≡ kind_text c) × (v ≡ value_text c)
+  value_back kind.Reference c e = (ap kind_text (mapped_parts Reference (natural64 v) c e).2, by_natural Reference (λ n. refl) c e)
+  value_back kind.Pointer c e = (ap kind_text (mapped_parts Pointer (natural64 v) c e).2, by_natural Pointer (λ n. refl) c e)
   value_back kind.Functor c e =
       let f : ℕ → Cell = λ n. Functor (n / 64) (n % 64) in
-      (ap kind_text (mapped_parts f (natural v) c e).2, by_natural f (λ n. ap decimal (let same : n ≡ functor_value (n / 64) (n % 64) = omega arith in same)) c e)
-  value_back kind.Atom c e = (ap kind_text (mapped_parts Atom (natural v) c e).2, by_natural Atom (λ n. refl) c e)
+      (ap kind_text (mapped_parts f (natural64 v) c e).2, by_natural f (λ n. ap decimal (let same : n ≡ functor_value (n / 64) (n % 64) = omega arith in same)) c e)
+  value_back kind.Atom c e = (ap kind_text (mapped_parts Atom (natural64 v) c e).2, by_natural Atom (λ n. refl) c e)
   value_back kind.Integer c e =
-      let m = mapped_parts Integer (integer v) c e in
-      (ap kind_text m.2, signed_integer v m.0 short m.1 ∙ ap value_text m.2)
+      let m = mapped_parts Integer (integer64 v) c e in
+      (ap kind_text m.2, (signed_integer64 v m.0 m.1).0 ∙ ap value_text m.2)
   value_back kind.Number c e = absurd (not_some e)
 
-  pub cell_back : (w : List ℕ) (c : Cell) → cell_in (letter w) (natural v) (integer v) ≡ Some c → (w ≡ kind_text c) × (v ≡ value_text c)
+  pub cell_back : (w : List ℕ) (c : Cell) → cell_in (letter w) (natural64 v) (integer64 v) ≡ Some c → (w ≡ kind_text c) × (v ≡ value_text c)
   cell_back w c e = by (letter w) refl e
     where
-      by : (o : Option Kind) → letter w ≡ o → cell_in o (natural v) (integer v) ≡ Some c → (w ≡ kind_text c) × (v ≡ value_text c)
+      by : (o : Option Kind) → letter w ≡ o → cell_in o (natural64 v) (integer64 v) ≡ Some c → (w ≡ kind_text c) × (v ≡ value_text c)
       by None is e = absurd (not_some e)
       by (Some k) is e =
-          let b = value_back k c (ranged_parts (cell_by k (natural v) (integer v)) c e).0 in
+          let b = value_back k c (ranged_parts (cell_by k (natural64 v) (integer64 v)) c e).0 in
           (letter_back w k is ∙ b.0, b.1)
 
   -- the parts without cells
-  pub number_back : (w : List ℕ) (n : ℕ) → number_in (letter w) (natural v) ≡ Some n → (w ≡ codes "n") × (v ≡ decimal n)
+  pub number_back : (w : List ℕ) (n : ℕ) → number_in (letter w) (natural64 v) ≡ Some n → (w ≡ codes "n") × (v ≡ decimal n)
   number_back w n e = by (letter w) refl e
     where
-      by : (o : Option Kind) → letter w ≡ o → number_in o (natural v) ≡ Some n → (w ≡ codes "n") × (v ≡ decimal n)
+      by : (o : Option Kind) → letter w ≡ o → number_in o (natural64 v) ≡ Some n → (w ≡ codes "n") × (v ≡ decimal n)
       by None is e = absurd (not_some e)
       by (Some kind.Reference) is e = absurd (not_some e)
       by (Some kind.Pointer) is e = absurd (not_some e)
       by (Some kind.Functor) is e = absurd (not_some e)
       by (Some kind.Atom) is e = absurd (not_some e)
       by (Some kind.Integer) is e = absurd (not_some e)
-      by (Some kind.Number) is e = (letter_back w kind.Number is, decimal_natural v n short (limited_parts (natural v) n e).0)
+      by (Some kind.Number) is e = (letter_back w kind.Number is, (decimal_natural64 v n (limited_parts (natural64 v) n e).0).0)
 
-pub number_read : (n : ℕ) → leb n 4096 ≡ true → number_in (letter (codes "n")) (natural (decimal n)) ≡ Some n
-number_read n h = ap limited (natural_decimal n (omega (arith, leb-true n 4096 h))) ∙ cond-true _ _ _ h
+pub number_read : (n : ℕ) → leb n 4096 ≡ true → number_in (letter (codes "n")) (natural64 (decimal n)) ≡ Some n
+number_read n h = ap limited (natural64_decimal n (omega (arith, leb-true n 4096 h))) ∙ cond-true _ _ _ h

@@ -4,7 +4,7 @@ use Rattle.std.proofs.lemmas.List.{nil_from_length, reverse-append, get_or-rever
 use Rattle.std.proofs.lemmas.Bool.{and_parts, eqb-true, ltb-true}
 use Rattle.cells.specs.declared.cell.Cell.{Cell}
 use Rattle.cells.specs.declared.cell.Cell.TheVariants.{Atom}
-use Rattle.tables.specs.Tables.{Choice, no_choice, choice_at, set_choice, set_register, push_choice, with_choices, with_saved, with_tops}
+use Rattle.tables.specs.Tables.{Choice, Tables, no_choice, choice_at, set_choice, set_register, push_choice, with_choices, with_saved, with_tops}
 use Rattle.tables.proofs.Views.{reverse_set}
 use Rattle.lines.specs.declared.item.Item.TheVariants as item
 use Rattle.images.specs.Text.{Listing}
@@ -49,6 +49,10 @@ length_oldest l = length_choices_from (registers_from l.registers) l.heap_tops l
 
 pub length_choices : (l : Listing) → length (tables_from l).choices ≡ length l.heap_tops
 length_choices l = length-reverse (oldest_first l) ∙ length_oldest l
+
+-- tables have a choice point for each heap top that is listed
+pub choices_held : (t : Tables) (l : Listing) → t ≡ tables_from l → length t.choices ≡ length l.heap_tops
+choices_held t l h = ap (λ (t : Tables). length t.choices) h ∙ length_choices l
 
 -- a change of the p-th choice point from the oldest is one of the k-th from the newest
 turned : (zs : List Choice) (f : Choice → Choice) (k p : ℕ) → p < length zs → k ≡ length zs - 1 - p

@@ -10,7 +10,7 @@ use Rattle.lines.specs.declared.word.Part.TheVariants as part
 use Rattle.lines.specs.declared.item.Item.{Item}
 use Rattle.lines.specs.declared.item.Item.TheVariants as item
 use Rattle.lines.specs.Lines.{words_of, shaped, cell_by, ranged, cell_in, limited, number_in, both, item_by, item_in, item_of, or_bad_line, line_read}
-use Rattle.lines.specs.Words.{part_named, letter, natural, integer}
+use Rattle.lines.specs.Words.{part_named, letter, natural64, integer64}
 use Rattle.images.specs.Drafts.{in_place}
 use Rattle.lines.proofs.Options.{not_some}
 
@@ -67,7 +67,7 @@ words_in_place [] x e = absurd (not_some e)
 words_in_place (p ∷ []) x e = absurd (not_some e)
 words_in_place (p ∷ i ∷ []) x e = absurd (not_some e)
 words_in_place (p ∷ i ∷ k ∷ []) x e = absurd (not_some e)
-words_in_place (p ∷ i ∷ k ∷ v ∷ []) x e = in_place_lem (part_named p) (natural i) (letter k) (natural v) (integer v) x e
+words_in_place (p ∷ i ∷ k ∷ v ∷ []) x e = in_place_lem (part_named p) (natural64 i) (letter k) (natural64 v) (integer64 v) x e
 words_in_place (p ∷ i ∷ k ∷ v ∷ w ∷ ws) x e = absurd (not_some e)
 
 -- a line that is read has its shape, and its words say what is read

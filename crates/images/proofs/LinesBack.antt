@@ -1,6 +1,6 @@
 -- A line is read as a place exactly where it is the text of that place.
-use Rattle.std.proofs.Common.{◌≡◌, ℕ, ◌^◌, ◌<◌, ◌≤◌, true, ◌&&◌, leb, List, [], ◌∷◌, length, ℤ, Some, None, Ok, codes, decimal, Option, sym, refl, ap, ◌∙◌, ap₂, arith}
-use Rattle.std.proofs.lemmas.Bool.{and_parts, cond-true, leb-true}
+use Rattle.std.proofs.Common.{◌≡◌, ℕ, ◌^◌, ◌<◌, true, leb, List, [], ◌∷◌, ℤ, Some, None, Ok, codes, decimal, Option, sym, refl, ap, ◌∙◌, ap₂, arith}
+use Rattle.std.proofs.lemmas.Bool.{cond-true, leb-true}
 use Rattle.cells.specs.declared.cell.Cell.{Cell}
 use Rattle.cells.specs.Cells.{in_range}
 use Rattle.lines.specs.declared.word.Kind.{Kind}
@@ -8,7 +8,7 @@ use Rattle.lines.specs.declared.word.Part.{Part}
 use Rattle.lines.specs.declared.word.Part.TheVariants as part
 use Rattle.lines.specs.declared.item.Item.{Item}
 use Rattle.lines.specs.declared.item.Item.TheVariants as item
-use Rattle.lines.specs.Words.{part_name, part_named, letter, natural, integer, word_shaped}
+use Rattle.lines.specs.Words.{part_name, part_named, letter, natural64, integer64}
 use Rattle.lines.specs.Lines.{words_of, shaped, cell_in, number_in, both, item_by, item_in, item_of, or_bad_line, line_read}
 use Rattle.images.specs.Text.{kind_text, value_text, cell_line, number_line, line_of}
 use Rattle.images.specs.Drafts.{in_place}
@@ -16,9 +16,8 @@ use Rattle.images.specs.ImageLaws.{index_of, LineIsText}
 use Rattle.lines.proofs.Options.{not_some}
 use Rattle.lines.proofs.PartNames.{part_named_lem, part_name_lem}
 use Rattle.images.proofs.InPlace.{both_parts, read_parts, read_in_place}
-use Rattle.lines.proofs.ItemReads.{short}
 use Rattle.images.proofs.Pieces.{Word, four, words_four, four_lacks, shaped_four, line_four, lacks}
-use Rattle.images.proofs.NumbersBack.{natural_decimal, decimal_natural, word_decimal}
+use Rattle.images.proofs.NumbersBack.{natural64_decimal, decimal_natural64, word_decimal}
 use Rattle.images.proofs.CellsBack.{kind_word, value_word, cell_read, cell_back, number_read, number_back}
 
 pub part_word : (p : Part) → Word (part_name p)
@@ -35,29 +34,29 @@ number_word = record { shape = refl; high = refl }
 -- from the place to its line and back
 
 four_read : (n : ℕ) (p i k v : List ℕ) (x : Item) → Word p → Word i → Word k → Word v
-    → item_in (part_named p) (natural i) (letter k) (natural v) (integer v) ≡ Some x → line_read n (four p i k v) ≡ Ok x
+    → item_in (part_named p) (natural64 i) (letter k) (natural64 v) (integer64 v) ≡ Some x → line_read n (four p i k v) ≡ Ok x
 four_read n p i k v x wp wi wk wv e =
     let words = words_four p i k v wp wi wk wv in
     cond-true _ _ _ (ap shaped words ∙ shaped_four p i k v wp wi wk wv) ∙ ap (or_bad_line n) (ap item_of words ∙ e)
 
 module _ (n : ℕ) (p : Part) (i : ℕ) (low : i < 10 ^ 10) where
-  index_read : natural (decimal i) ≡ Some i
-  index_read = natural_decimal i (omega arith)
+  index_read : natural64 (decimal i) ≡ Some i
+  index_read = natural64_decimal i (omega arith)
 
   cell_line_lem : (f : ℕ → Cell → Item) → ((j : Option ℕ) (k : Option Kind) (m : Option ℕ) (z : Option ℤ) → item_by p j k m z ≡ both f j (cell_in k m z))
       → (c : Cell) → in_range c ≡ true → line_read n (cell_line p i c) ≡ Ok (f i c)
   cell_line_lem f is c h =
       four_read n (part_name p) (decimal i) (kind_text c) (value_text c) (f i c) (part_word p) (word_decimal i low) (kind_word c) (value_word c h)
-      (ap (λ o. item_in o (natural (decimal i)) (letter (kind_text c)) (natural (value_text c)) (integer (value_text c))) (part_named_lem p)
-      ∙ is (natural (decimal i)) (letter (kind_text c)) (natural (value_text c)) (integer (value_text c))
+      (ap (λ o. item_in o (natural64 (decimal i)) (letter (kind_text c)) (natural64 (value_text c)) (integer64 (value_text c))) (part_named_lem p)
+      ∙ is (natural64 (decimal i)) (letter (kind_text c)) (natural64 (value_text c)) (integer64 (value_text c))
       ∙ ap₂ (both f) index_read (cell_read c h))
 
   number_line_lem : (f : ℕ → ℕ → Item) → ((j : Option ℕ) (k : Option Kind) (m : Option ℕ) (z : Option ℤ) → item_by p j k m z ≡ both f j (number_in k m))
       → (m : ℕ) → leb m 4096 ≡ true → line_read n (number_line p i m) ≡ Ok (f i m)
   number_line_lem f is m h =
       four_read n (part_name p) (decimal i) (codes "n") (decimal m) (f i m) (part_word p) (word_decimal i low) number_word (word_decimal m (omega (arith, leb-true m 4096 h)))
-      (ap (λ o. item_in o (natural (decimal i)) (letter (codes "n")) (natural (decimal m)) (integer (decimal m))) (part_named_lem p)
-      ∙ is (natural (decimal i)) (letter (codes "n")) (natural (decimal m)) (integer (decimal m))
+      (ap (λ o. item_in o (natural64 (decimal i)) (letter (codes "n")) (natural64 (decimal m)) (integer64 (decimal m))) (part_named_lem p)
+      ∙ is (natural64 (decimal i)) (letter (codes "n")) (natural64 (decimal m)) (integer64 (decimal m))
       ∙ ap₂ (both f) index_read (number_read m h))
 
 pub line_read_lem : (n : ℕ) (x : Item) → in_place x ≡ true → index_of x < 10 ^ 10 → line_read n (line_of x) ≡ Ok x
@@ -85,45 +84,38 @@ line_lacks (item.Saved i c) h low = cell_lacks part.Saved i c low h
 
 -- from the line to the place that it is read as and back
 
-module _ (p i k v : List ℕ) (si : length i ≤ 10) (sv : length v ≤ 10) (q : Part) (named : p ≡ part_name q) (x : Item) where
+module _ (p i k v : List ℕ) (q : Part) (named : p ≡ part_name q) (x : Item) where
   cell_text : (f : ℕ → Cell → Item) → ((j : ℕ) (c : Cell) → line_of (f j c) ≡ cell_line q j c)
-      → both f (natural i) (cell_in (letter k) (natural v) (integer v)) ≡ Some x → four p i k v ≡ line_of x
+      → both f (natural64 i) (cell_in (letter k) (natural64 v) (integer64 v)) ≡ Some x → four p i k v ≡ line_of x
   cell_text f is e =
-      let b = both_parts f (natural i) (cell_in (letter k) (natural v) (integer v)) x e in
-      let w = cell_back v sv k b.1 b.3 in
-      ap₂ (λ a d. four a d k v) named (decimal_natural i b.0 si b.2)
+      let b = both_parts f (natural64 i) (cell_in (letter k) (natural64 v) (integer64 v)) x e in
+      let w = cell_back v k b.1 b.3 in
+      ap₂ (λ a d. four a d k v) named (decimal_natural64 i b.0 b.2).0
       ∙ ap₂ (four (part_name q) (decimal b.0)) w.0 w.1 ∙ sym (is b.0 b.1) ∙ ap line_of b.4
 
-  number_text : (f : ℕ → ℕ → Item) → ((j m : ℕ) → line_of (f j m) ≡ number_line q j m) → both f (natural i) (number_in (letter k) (natural v)) ≡ Some x → four p i k v ≡ line_of x
+  number_text : (f : ℕ → ℕ → Item) → ((j m : ℕ) → line_of (f j m) ≡ number_line q j m) → both f (natural64 i) (number_in (letter k) (natural64 v)) ≡ Some x → four p i k v ≡ line_of x
   number_text f is e =
-      let b = both_parts f (natural i) (number_in (letter k) (natural v)) x e in
-      let w = number_back v sv k b.1 b.3 in
-      ap₂ (λ a d. four a d k v) named (decimal_natural i b.0 si b.2)
+      let b = both_parts f (natural64 i) (number_in (letter k) (natural64 v)) x e in
+      let w = number_back v k b.1 b.3 in
+      ap₂ (λ a d. four a d k v) named (decimal_natural64 i b.0 b.2).0
       ∙ ap₂ (four (part_name q) (decimal b.0)) w.0 w.1 ∙ sym (is b.0 b.1) ∙ ap line_of b.4
 
-item_text : (p i k v : List ℕ) → length i ≤ 10 → length v ≤ 10 → (q : Part) → p ≡ part_name q → (x : Item)
-    → item_by q (natural i) (letter k) (natural v) (integer v) ≡ Some x → four p i k v ≡ line_of x
-item_text p i k v si sv part.Heap is x e = cell_text p i k v si sv part.Heap is x item.Heap (λ j c. refl) e
-item_text p i k v si sv part.Register is x e = cell_text p i k v si sv part.Register is x item.Register (λ j c. refl) e
-item_text p i k v si sv part.Trail is x e = number_text p i k v si sv part.Trail is x item.Trail (λ j m. refl) e
-item_text p i k v si sv part.HeapTop is x e = number_text p i k v si sv part.HeapTop is x item.HeapTop (λ j m. refl) e
-item_text p i k v si sv part.TrailTop is x e = number_text p i k v si sv part.TrailTop is x item.TrailTop (λ j m. refl) e
-item_text p i k v si sv part.Saved is x e = cell_text p i k v si sv part.Saved is x item.Saved (λ j c. refl) e
-
-shaped_parts : (p i k v : List ℕ) → shaped (p ∷ i ∷ k ∷ v ∷ []) ≡ true → (length i ≤ 10) × (length v ≤ 10)
-shaped_parts p i k v s =
-    let a = and_parts (word_shaped p) (word_shaped i && (word_shaped k && (word_shaped v && true))) s in
-    let b = and_parts (word_shaped i) (word_shaped k && (word_shaped v && true)) a.1 in
-    let c = and_parts (word_shaped k) (word_shaped v && true) b.1 in
-    (short i b.0, short v (and_parts (word_shaped v) true c.1).0)
+item_text : (p i k v : List ℕ) → (q : Part) → p ≡ part_name q → (x : Item)
+    → item_by q (natural64 i) (letter k) (natural64 v) (integer64 v) ≡ Some x → four p i k v ≡ line_of x
+item_text p i k v part.Heap is x e = cell_text p i k v part.Heap is x item.Heap (λ j c. refl) e
+item_text p i k v part.Register is x e = cell_text p i k v part.Register is x item.Register (λ j c. refl) e
+item_text p i k v part.Trail is x e = number_text p i k v part.Trail is x item.Trail (λ j m. refl) e
+item_text p i k v part.HeapTop is x e = number_text p i k v part.HeapTop is x item.HeapTop (λ j m. refl) e
+item_text p i k v part.TrailTop is x e = number_text p i k v part.TrailTop is x item.TrailTop (λ j m. refl) e
+item_text p i k v part.Saved is x e = cell_text p i k v part.Saved is x item.Saved (λ j c. refl) e
 
 pub line_text : (n : ℕ) (line : List ℕ) (x : Item) → line_read n line ≡ Ok x → line ≡ line_of x
 line_text n line x e = let r = read_parts n line x e in by (words_of line) refl r.0 r.1
   where
-    part_of : (p i k v : List ℕ) → length i ≤ 10 → length v ≤ 10 → (o : Option Part) → part_named p ≡ o
-        → item_in o (natural i) (letter k) (natural v) (integer v) ≡ Some x → four p i k v ≡ line_of x
-    part_of p i k v si sv None is e = absurd (not_some e)
-    part_of p i k v si sv (Some q) is e = item_text p i k v si sv q (part_name_lem p q is) x e
+    part_of : (p i k v : List ℕ) → (o : Option Part) → part_named p ≡ o
+        → item_in o (natural64 i) (letter k) (natural64 v) (integer64 v) ≡ Some x → four p i k v ≡ line_of x
+    part_of p i k v None is e = absurd (not_some e)
+    part_of p i k v (Some q) is e = item_text p i k v q (part_name_lem p q is) x e
 
     by : (ws : List (List ℕ)) → words_of line ≡ ws → shaped ws ≡ true → item_of ws ≡ Some x → line ≡ line_of x
     by [] is s e = absurd (not_some e)
@@ -131,7 +123,7 @@ line_text n line x e = let r = read_parts n line x e in by (words_of line) refl 
     by (p ∷ i ∷ []) is s e = absurd (not_some e)
     by (p ∷ i ∷ k ∷ []) is s e = absurd (not_some e)
     by (p ∷ i ∷ k ∷ v ∷ []) is s e =
-        line_four p i k v line is ∙ part_of p i k v (shaped_parts p i k v s).0 (shaped_parts p i k v s).1 (part_named p) refl e
+        line_four p i k v line is ∙ part_of p i k v (part_named p) refl e
     by (p ∷ i ∷ k ∷ v ∷ w ∷ ws) is s e = absurd (not_some e)
 
 pub line_is_text : LineIsText

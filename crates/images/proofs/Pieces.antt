@@ -1,11 +1,10 @@
 -- Words without spaces come back from the line that they make, and a line from its words; so do lines and texts.
-use Rattle.std.proofs.Common.{◌≡◌, ℕ, ◌<◌, Bool, true, false, cond, not, ◌&&◌, eqb, leb, List, [], ◌∷◌, ◌++◌, length, sym, refl, ap, ◌∙◌, arith}
-use Rattle.std.specs.List.{flat_map}
-use Rattle.std.proofs.lemmas.List.{append-nil}
-use Rattle.std.proofs.lemmas.Bool.{and_parts, and_from, cond-true, cond-false, eq-eqb, ne_eqb, eqb-true, leb-true, not-true, not_from_false}
+use Rattle.std.proofs.Common.{◌≡◌, ℕ, ◌<◌, Bool, true, not, ◌&&◌, eqb, leb, List, [], ◌∷◌, ◌++◌, sym, refl, ap, ◌∙◌, arith}
+use Rattle.std.specs.List.{join_with_byte, onto_first}
+use Rattle.std.proofs.lemmas.List.Splits.{join_with_byte-slice_split}
+use Rattle.std.proofs.lemmas.Bool.{and_parts, and_from, cond-true, cond-false, eq-eqb, ne_eqb, leb-true, not-true, not_from_false}
 use Rattle.lines.specs.Words.{word_shaped}
-use Rattle.lines.specs.Lines.{at_front, split, words_of, shaped}
-use Rattle.lines.proofs.Splits.{split_some}
+use Rattle.lines.specs.Lines.{split, words_of, shaped}
 
 -- no byte below 45 stands in the text
 abbrev pub all_high : List ℕ → Bool
@@ -34,27 +33,12 @@ high_lacks b (c ∷ cs) low h =
 pub split_joined : (b : ℕ) (w rest : List ℕ) → lacks b w ≡ true → split b (w ++ (b ∷ rest)) ≡ w ∷ split b rest
 split_joined b [] rest h = cond-true _ _ _ (eq-eqb b b refl)
 split_joined b (c ∷ cs) rest h =
-    let p = and_parts _ _ h in cond-false _ _ _ (not-true _ p.0) ∙ ap (at_front c) (split_joined b cs rest p.1)
+    let p = and_parts _ _ h in cond-false _ _ _ (not-true _ p.0) ∙ ap (onto_first c) (split_joined b cs rest p.1)
 
 pub split_alone : (b : ℕ) (w : List ℕ) → lacks b w ≡ true → split b w ≡ w ∷ []
 split_alone b [] h = refl
 split_alone b (c ∷ cs) h =
-    let p = and_parts _ _ h in cond-false _ _ _ (not-true _ p.0) ∙ ap (at_front c) (split_alone b cs p.1)
-
--- pieces put together again
-abbrev pub glued : ℕ → List (List ℕ) → List ℕ
-glued b [] = []
-glued b (w ∷ ws) = w ++ flat_map (λ v. b ∷ v) ws
-
-pub glued_split : (b : ℕ) (xs : List ℕ) → glued b (split b xs) ≡ xs
-glued_split b [] = refl
-glued_split b (c ∷ cs) = test (split b cs) (split_some b cs) (glued_split b cs) (eqb c b) refl
-  where
-    test : (pieces : List (List ℕ)) → 0 < length pieces → glued b pieces ≡ cs → (t : Bool) → eqb c b ≡ t
-        → glued b (cond t ([] ∷ pieces) (at_front c pieces)) ≡ c ∷ cs
-    test [] some back t is = absurd (let no : 0 < 0 = some in omega arith)
-    test (piece ∷ pieces) some back true is = ap (λ ys. b ∷ ys) back ∙ ap (λ d. d ∷ cs) (sym (eqb-true c b is))
-    test (piece ∷ pieces) some back false is = ap (λ ys. c ∷ ys) back
+    let p = and_parts _ _ h in cond-false _ _ _ (not-true _ p.0) ∙ ap (onto_first c) (split_alone b cs p.1)
 
 -- four words and the line that they make
 module _ (p i k v : List ℕ) where
@@ -80,4 +64,4 @@ module _ (p i k v : List ℕ) where
 
   pub line_four : (line : List ℕ) → words_of line ≡ p ∷ i ∷ k ∷ v ∷ [] → line ≡ four
   line_four line e =
-      sym (glued_split 32 line) ∙ ap (glued 32) e ∙ ap (λ ys. p ++ (32 ∷ (i ++ (32 ∷ (k ++ (32 ∷ ys)))))) (append-nil v)
+      sym (join_with_byte-slice_split 32 line) ∙ ap (join_with_byte 32) e

@@ -11,11 +11,13 @@ use Rattle.lines.specs.Lines.{split, words_of, shaped}
 use Rattle.lines.specs.Heads.{head, head_read}
 use Rattle.images.specs.Text.{Listing, listing_of, items_of, text_of}
 use Rattle.images.specs.Reading.{nothing, whole, tables_from, after_head, read_lines, read_head, tables_in}
-use Rattle.images.proofs.Pieces.{glued, glued_split, split_joined}
+use Rattle.std.specs.List.{join_with_byte}
+use Rattle.std.proofs.lemmas.List.Splits.{join_with_byte-slice_split}
+use Rattle.images.proofs.Pieces.{split_joined}
 use Rattle.images.proofs.ImageReading.{head_first}
 use Rattle.images.proofs.Accepted.{Placed, accepts_items}
 use Rattle.images.proofs.Listed.{items_accepted}
-use Rattle.images.proofs.TextsBack.{Written, text_lines, lines_read, lines_consist, glued_lines}
+use Rattle.images.proofs.TextsBack.{Written, text_lines, lines_read, lines_consist, joined_lines}
 use Rattle.images.proofs.TablesBack.{listing_back}
 
 abbrev pub text_from : Listing → List ℕ
@@ -49,8 +51,8 @@ read_text bytes t e = by (split 10 bytes) refl e
         let c = lines_consist (p ∷ ps) nothing 2 t e in
         let items : c.items ≡ items_of (listing_of t) =
         items_accepted nothing c.listing c.items c.accepted ∙ ap items_of (sym (whole_listing c.listing t c.all c.tables)) in
-        sym (glued_split 10 bytes) ∙ ap (glued 10) is
-        ∙ ap₂ (λ h ys. h ++ (10 ∷ ys)) first (ap (glued 10) c.lines ∙ glued_lines c.items ∙ ap text_lines items)
+        sym (join_with_byte-slice_split 10 bytes) ∙ ap (join_with_byte 10) is
+        ∙ ap₂ (λ h ys. h ++ (10 ∷ ys)) first (ap (join_with_byte 10) c.lines ∙ joined_lines c.items ∙ ap text_lines items)
 
     after : (piece p : List ℕ) (ps : List (List ℕ)) → split 10 bytes ≡ piece ∷ p ∷ ps → (r : Result (Unit {0}) LineFault) → head_read 1 piece ≡ r
         → after_head r (read_lines nothing 2 (p ∷ ps)) ≡ Ok t → bytes ≡ text_of t

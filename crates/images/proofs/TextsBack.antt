@@ -13,7 +13,8 @@ use Rattle.images.specs.Text.{Listing, line_of, ended}
 use Rattle.images.specs.Reading.{follows, added, whole, tables_from, at_end, go_on, read_lines}
 use Rattle.images.specs.Drafts.{in_place}
 use Rattle.images.specs.ImageLaws.{index_of}
-use Rattle.images.proofs.Pieces.{glued, split_joined}
+use Rattle.std.specs.List.{join_with_byte}
+use Rattle.images.proofs.Pieces.{split_joined}
 use Rattle.images.proofs.InPlace.{read_in_place}
 use Rattle.images.proofs.ImageReading.{line_first}
 use Rattle.images.proofs.LinesBack.{line_read_lem, line_text, line_lacks}
@@ -96,14 +97,14 @@ lines_consist (piece ∷ []) l n t e = ends l n piece t e
 lines_consist (piece ∷ p ∷ ps) l n t e = goes_on l n piece (p ∷ ps) t (λ k. lines_consist (p ∷ ps) k (suc n) t) e
 
 -- the bytes of lines
-pub glued_lines : (xs : List Item) → glued 10 (map line_of xs ++ ([] ∷ [])) ≡ text_lines xs
-glued_lines [] = refl
-glued_lines (x ∷ xs) = step (map line_of xs ++ ([] ∷ [])) (some xs) (glued_lines xs)
+pub joined_lines : (xs : List Item) → join_with_byte 10 (map line_of xs ++ ([] ∷ [])) ≡ text_lines xs
+joined_lines [] = refl
+joined_lines (x ∷ xs) = step (map line_of xs ++ ([] ∷ [])) (some xs) (joined_lines xs)
   where
     some : (ys : List Item) → 0 < length (map line_of ys ++ ([] ∷ []))
     some [] = omega arith
     some (y ∷ ys) = omega arith
 
-    step : (ps : List (List ℕ)) → 0 < length ps → glued 10 ps ≡ text_lines xs → glued 10 (line_of x ∷ ps) ≡ text_lines (x ∷ xs)
+    step : (ps : List (List ℕ)) → 0 < length ps → join_with_byte 10 ps ≡ text_lines xs → join_with_byte 10 (line_of x ∷ ps) ≡ text_lines (x ∷ xs)
     step [] h e = absurd (let no_one : 0 < 0 = h in omega arith)
     step (p ∷ ps) h e = ap (λ ys. line_of x ++ (10 ∷ ys)) e ∙ sym (append_assoc (line_of x) (10 ∷ []) (text_lines xs))

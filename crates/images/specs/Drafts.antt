@@ -11,11 +11,11 @@ use Rattle.lines.specs.Lines.{line_read}
 use Rattle.images.specs.Text.{Listing}
 use Rattle.images.specs.Reading.{follows, added, tables_from}
 
--- a draft holds the tables of what is listed so far, and how many places of four parts are listed
+-- a draft holds the tables of what is listed so far, where each heap top has a choice point, and counts the places of three parts
 pub record Holds (d : Draft) (l : Listing) : Type 0 where
   pub tables : tables_of d.memory ≡ tables_from l
   pub registers : d.registers ≡ length l.registers
-  pub heap_tops_count : d.heap_tops ≡ length l.heap_tops
+  pub heap_tops_count : length (tables_of d.memory).choices ≡ length l.heap_tops
   pub trail_tops_count : d.trail_tops ≡ length l.trail_tops
   pub saved : d.saved ≡ length l.saved
   pub low : (i : ℕ) → slice_index l.heap_tops i ≤ 4096

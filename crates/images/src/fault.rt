@@ -5,7 +5,7 @@ use cells::Refusal;
 use heaps::{Fault, Rule};
 pub use lines::{LineFault, WordFault};
 
-// Why an image cannot be loaded.
+// Why an image cannot be loaded. Its three cases are the refusals 10, 11 and 12.
 #[derive(Clone, Copy, PartialEq, Eq)]
 pub enum LoadFault {
     BadShape { line: u64 },
@@ -42,9 +42,9 @@ impl LoadFault {
         ensures { result ≡ refusal_of self }
     {
         match self {
-            LoadFault::BadShape { line: _ } => Refusal::BadShape,
-            LoadFault::BadLayout { line: _ } => Refusal::BadLayout,
-            LoadFault::BrokenRule { rule: _, line: _ } => Refusal::BrokenRule,
+            LoadFault::BadShape { .. } => Refusal::BadShape,
+            LoadFault::BadLayout { .. } => Refusal::BadLayout,
+            LoadFault::BrokenRule { .. } => Refusal::BrokenRule,
         }
     }
 
@@ -53,9 +53,8 @@ impl LoadFault {
         ensures { result ≡ broken_rule self }
     {
         match self {
-            LoadFault::BadShape { line: _ } => None,
-            LoadFault::BadLayout { line: _ } => None,
-            LoadFault::BrokenRule { rule, line: _ } => Some(rule),
+            LoadFault::BrokenRule { rule, .. } => Some(rule),
+            _ => None,
         }
     }
 
@@ -64,9 +63,9 @@ impl LoadFault {
         ensures { result ≡ fault_line self }
     {
         match self {
-            LoadFault::BadShape { line } => line,
-            LoadFault::BadLayout { line } => line,
-            LoadFault::BrokenRule { rule: _, line } => line,
+            LoadFault::BadShape { line }
+            | LoadFault::BadLayout { line }
+            | LoadFault::BrokenRule { line, .. } => line,
         }
     }
 }

@@ -13,10 +13,8 @@ pub fn read(image: &[u8]) -> Result<Memory, LoadFault>
 {
     let mut reader = Reader::new(image);
     let mut draft = Draft::new();
-    match reader.next_line()? {
-        Some(line) => line.head()?,
-        None => return Err(LoadFault::BadShape { line: 1 }),
-    }
+    let first = reader.next_line()?.ok_or(LoadFault::BadShape { line: 1 })?;
+    first.head()?;
     while let Some(line) = reader.next_line()? {
         draft.add(line)?;
     }

@@ -1,56 +1,22 @@
--- What is made of two words is a fault where one of them is, and else is made of what they say.
-use Rattle.std.proofs.Common.{◌≡◌, ℕ, ◌≤◌, true, List, length, ℤ, IsErrAnd, Some, None, Ok, Err, Option, Result, sym, refl, ap, ◌∙◌, ap₂, arith}
+-- A line says what its words say, and what is no place is a fault.
+use Rattle.std.proofs.Common.{◌≡◌, ℕ, true, List, IsErrAnd, Some, None, Ok, Err, Option, Result, sym, refl, ap, ◌∙◌, ap₂, arith}
 use Rattle.std.proofs.lemmas.Result.{err_from_is_err_and}
-use Rattle.std.proofs.lemmas.Bool.{and_from, and_parts, leb-true, cond-true}
+use Rattle.std.proofs.lemmas.Bool.{and_from, cond-true}
 use Rattle.lines.specs.declared.fault.WordFault.{WordFault}
 use Rattle.lines.specs.declared.fault.WordFault.TheVariants as word
 use Rattle.lines.specs.declared.fault.LineFault.{LineFault}
 use Rattle.lines.specs.declared.item.Item.{Item}
 use Rattle.lines.specs.declared.line.Words.{Words}
-use Rattle.lines.specs.declared.word.Part.{Part}
-use Rattle.lines.specs.declared.word.Part.TheVariants as part
 use Rattle.lines.specs.Faults.{of_word}
-use Rattle.lines.specs.Words.{or_bad, word_shaped, part_named, letter, natural, part_in, kind_in, natural_in, integer_in}
-use Rattle.lines.specs.Lines.{words_of, shaped, both, item_in, item_of, or_bad_line, line_read}
+use Rattle.lines.specs.Words.{or_bad, part_named, letter, natural64, part_in, kind_in, natural_in, integer_in}
+use Rattle.lines.specs.Lines.{words_of, shaped, item_in, item_of, or_bad_line, line_read}
 use Rattle.lines.specs.Cuts.{Spread}
-use Rattle.lines.proofs.Options.{bad_passed}
-
-module _ {X : Type 0} (n i : ℕ) (f : ℕ → X → Item) (o : Option X) (q : Option Item) (is : q ≡ both f (Some i) o) where
-  pub fails : (r : Result Item WordFault) (e : WordFault) → IsErrAnd r (λ y. y ≡ e) → Err e ≡ or_bad n o → r ≡ or_bad n q
-  fails r e by h =
-      let p = err_from_is_err_and r by in
-      p.1 ∙ ap Err p.2 ∙ bad_passed n o q e h (λ none. is ∙ ap (both f (Some i)) none)
-
-  pub works : (x : X) → Ok x ≡ or_bad n o → Ok (f i x) ≡ or_bad n q
-  works x h = made o h ∙ ap (or_bad n) (sym is)
-    where
-      made : (o : Option X) → Ok x ≡ or_bad n o → Ok (f i x) ≡ or_bad n (both f (Some i) o)
-      made None e = absurd (let z : ◌≡◌ {A = ℕ} 0 1 = cc in omega arith)
-      made (Some y) e = let same : x ≡ y = cc in ap (λ v. Ok (f i v)) same
 
 pub said : {X : Type 0} (n : ℕ) (o : Option X) (x : X) → Ok x ≡ or_bad n o → o ≡ Some x
 said n None x e = absurd (let z : ◌≡◌ {A = ℕ} 0 1 = cc in omega arith)
 said n (Some y) x e = cc
 
-pub kind_unsaid : (p : Option Part) (i n : Option ℕ) (z : Option ℤ) → item_in p i None n z ≡ None
-kind_unsaid None i n z = refl
-kind_unsaid (Some part.Heap) None n z = refl
-kind_unsaid (Some part.Heap) (Some i) n z = refl
-kind_unsaid (Some part.Register) None n z = refl
-kind_unsaid (Some part.Register) (Some i) n z = refl
-kind_unsaid (Some part.Trail) None n z = refl
-kind_unsaid (Some part.Trail) (Some i) n z = refl
-kind_unsaid (Some part.HeapTop) None n z = refl
-kind_unsaid (Some part.HeapTop) (Some i) n z = refl
-kind_unsaid (Some part.TrailTop) None n z = refl
-kind_unsaid (Some part.TrailTop) (Some i) n z = refl
-kind_unsaid (Some part.Saved) None n z = refl
-kind_unsaid (Some part.Saved) (Some i) n z = refl
-
 -- the words of a line, and the tokens that borrow them
-
-pub short : (w : List ℕ) → word_shaped w ≡ true → length w ≤ 10
-short w h = leb-true _ _ (and_parts _ _ h).1
 
 module _ (t : Words) (line : List ℕ) (s : Spread t (words_of line)) where
   spread_shaped : shaped (words_of line) ≡ true
@@ -67,8 +33,8 @@ module _ (t : Words) (line : List ℕ) (s : Spread t (words_of line)) where
       let n = s.reads_value.0.natural in
       let z = s.reads_value.0.integer in
       ap item_of s.words ∙ sym (ap₂ (λ a b. item_in a b (kind_in t.kind) (natural_in t.value) (integer_in t.value)) p i
-      ∙ ap₂ (λ a b. item_in (part_named s.part) (natural s.index) a b (integer_in t.value)) k n
-      ∙ ap (item_in (part_named s.part) (natural s.index) (letter s.kind) (natural s.value)) z)
+      ∙ ap₂ (λ a b. item_in (part_named s.part) (natural64 s.index) a b (integer_in t.value)) k n
+      ∙ ap (item_in (part_named s.part) (natural64 s.index) (letter s.kind) (natural64 s.value)) z)
 
   read_spread : (n : ℕ) → line_read n line ≡ or_bad_line n (item_in (part_in t.part) (natural_in t.index) (kind_in t.kind) (natural_in t.value) (integer_in t.value))
   read_spread n = cond-true _ _ _ spread_shaped ∙ ap (or_bad_line n) item_of_spread

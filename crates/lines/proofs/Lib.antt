@@ -1,7 +1,6 @@
 pub mod ItemReads
 pub mod NumbersRead
+pub mod ShortNumbers
 pub mod Options
 pub mod PartNames
-pub mod ReaderLines
 pub mod Splits
-pub mod TokenReads

@@ -1,8 +1,5 @@
 -- How an option comes about: from a test, or from other options.
-use Rattle.std.proofs.Common.{◌≡◌, ℕ, Bool, true, false, cond, Some, None, Err, Option, refl, subst, arith}
-use Rattle.lines.specs.declared.fault.WordFault.{WordFault}
-use Rattle.lines.specs.declared.fault.WordFault.TheVariants as fault
-use Rattle.lines.specs.Words.{or_bad}
+use Rattle.std.proofs.Common.{◌≡◌, ℕ, Bool, true, false, cond, Some, None, Option, refl, subst, arith}
 
 pub none_from : {A : Type 0} (o : Option A) → ((x : A) → o ≡ Some x → ⊥) → o ≡ None
 none_from None h = refl
@@ -16,8 +13,3 @@ pub or_from : {A : Type 0} (P : A → Type 0) (b : Bool) (x : A) (o : Option A) 
     → (y : A) → cond b (Some x) o ≡ Some y → P y
 or_from {A} P true x o here else y e = let same : x ≡ y = cc in subst P same (here refl)
 or_from P false x o here else y e = else y e
-
--- a word that says nothing makes the same fault of what is made from it
-pub bad_passed : {A B : Type 0} (n : ℕ) (o : Option A) (q : Option B) (e : WordFault) → Err e ≡ or_bad n o → (o ≡ None → q ≡ None) → Err e ≡ or_bad n q
-bad_passed n None q e h none = let g : Err e ≡ Err (fault.BadLayout n) = h in cc (none refl)
-bad_passed n (Some x) q e h none = absurd (let z : ◌≡◌ {A = ℕ} 0 1 = cc in omega arith)

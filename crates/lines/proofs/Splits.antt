@@ -1,50 +1,41 @@
--- A text is split at the first byte b in it, and then what follows; pieces without b come back from the text that they make.
-use Rattle.std.proofs.Common.{◌≡◌, ℕ, suc, ◌+◌, ◌-◌, ◌<◌, ◌≤◌, Bool, true, false, cond, eqb, List, [], ◌∷◌, length, take, drop, sym, refl, ap, ◌∙◌, ap₂, add-one, arith}
-use native.Mathlib.Nat.{sub-zero}
+-- A text is split where the first byte b stands in it, and then what follows.
+use Rattle.std.proofs.Common.{◌≡◌, ℕ, ◌+◌, ◌-◌, ◌<◌, Bool, true, false, cond, not, eqb, ltb, List, [], ◌∷◌, length, take, drop, Some, None, sym, refl, ap, ◌∙◌, arith}
+use Rattle.std.specs.List.{position, position_or_len, before_first, after_first}
 use Rattle.std.proofs.lemmas.List.{take_rest}
-use Rattle.lines.specs.Lines.{at_front, split}
-use Rattle.lines.specs.Cuts.{before}
-
-split_cut : (b : ℕ) (xs : List ℕ) → before b xs < length xs → split b xs ≡ take (before b xs) xs ∷ split b (drop (suc (before b xs)) xs)
-split_cut b [] h = absurd (let no : 0 < 0 = h in omega arith)
-split_cut b (c ∷ cs) h = step (split_cut b cs) (eqb c b) h
-  where
-    step : (before b cs < length cs → split b cs ≡ take (before b cs) cs ∷ split b (drop (suc (before b cs)) cs))
-        → (t : Bool) → cond t 0 (suc (before b cs)) < suc (length cs)
-        → cond t ([] ∷ split b cs) (at_front c (split b cs))
-        ≡ take (cond t 0 (suc (before b cs))) (c ∷ cs) ∷ split b (drop (suc (cond t 0 (suc (before b cs)))) (c ∷ cs))
-    step rest true h = refl
-    step rest false h = ap (at_front c) (rest (omega arith))
-
-split_whole : (b : ℕ) (xs : List ℕ) → length xs ≤ before b xs → split b xs ≡ xs ∷ []
-split_whole b [] h = refl
-split_whole b (c ∷ cs) h = step (split_whole b cs) (eqb c b) h
-  where
-    step : (length cs ≤ before b cs → split b cs ≡ cs ∷ []) → (t : Bool) → suc (length cs) ≤ cond t 0 (suc (before b cs)) → cond t ([] ∷ split b cs) (at_front c (split b cs)) ≡ (c ∷ cs) ∷ []
-    step rest true h = absurd (let no : suc (length cs) ≤ 0 = h in omega arith)
-    step rest false h = ap (at_front c) (rest (omega arith))
+use Rattle.std.proofs.lemmas.List.Sums.{prefix_len-le-length, fails_before_first}
+use Rattle.std.proofs.lemmas.List.Splits.{slice_split_none, slice_split_first, length-slice_split}
+use Rattle.std.proofs.lemmas.Bool.{ltb-true, ltb-false}
+use Rattle.lines.specs.Lines.{split}
+use Rattle.lines.proofs.Options.{not_some}
 
 pub split_some : (b : ℕ) (xs : List ℕ) → 0 < length (split b xs)
-split_some b [] = omega arith
-split_some b (c ∷ cs) = step (split b cs) (eqb c b)
-  where
-    step : (pieces : List (List ℕ)) (t : Bool) → 0 < length (cond t ([] ∷ pieces) (at_front c pieces))
-    step pieces true = omega arith
-    step [] false = omega arith
-    step (piece ∷ pieces) false = omega arith
+split_some b xs = omega (arith, length-slice_split (λ c. eqb c b) xs)
 
--- as slices are cut
-module _ (b : ℕ) (xs : List ℕ) (n : ℕ) (is : n ≡ before b xs) where
-  pub split_at : n < length xs → split b xs ≡ take (n - 0) xs ∷ split b (take (length xs - (n + 1)) (drop (n + 1) xs))
-  split_at h =
-      split_cut b xs (omega arith)
-      ∙ ap₂ (λ k m. take k xs ∷ split b (drop m xs)) (sym is ∙ sym (sub-zero n)) (ap suc (sym is) ∙ sym (add-one n))
-      ∙ ap (λ ys. take (n - 0) xs ∷ split b ys) (sym (take_rest xs (n + 1)))
+-- what `position` finds
+module _ (b : ℕ) (xs : List ℕ) where
+  abbrev first : ℕ
+  first = position_or_len (λ c. eqb c b) xs
 
-  pub split_none : length xs ≤ n → split b xs ≡ xs ∷ []
-  split_none h = split_whole b xs (omega arith)
+  pub found : (n : ℕ) → position (λ c. eqb c b) xs ≡ Some n → (first ≡ n) × (first < length xs)
+  found n e = test (ltb first (length xs)) refl e
+    where
+      test : (t : Bool) → ltb first (length xs) ≡ t → cond t (Some first) None ≡ Some n → (first ≡ n) × (first < length xs)
+      test true is e = (cc, ltb-true first (length xs) is)
+      test false is e = absurd (not_some e)
 
-  pub split_long : n < length xs → 1 < length (split b xs)
-  split_long h =
-      let rest = split_some b (take (length xs - (n + 1)) (drop (n + 1) xs)) in
-      omega (arith, rest, ap length (split_at h))
+  pub not_found : position (λ c. eqb c b) xs ≡ None → first ≡ length xs
+  not_found e = test (ltb first (length xs)) refl e
+    where
+      test : (t : Bool) → ltb first (length xs) ≡ t → cond t (Some first) None ≡ None → first ≡ length xs
+      test true is e = absurd (not_some (sym e))
+      test false is e = omega (arith, ltb-false first (length xs) is, prefix_len-le-length (λ c. not (eqb c b)) xs)
+
+  pub split_none : first ≡ length xs → split b xs ≡ xs ∷ []
+  split_none e = slice_split_none (λ c. eqb c b) xs (λ k d h. fails_before_first (λ c. eqb c b) xs k d (omega (arith, e, h)))
+
+  pub split_at : first < length xs → split b xs ≡ before_first (λ c. eqb c b) xs ∷ split b (after_first (λ c. eqb c b) xs)
+  split_at h = slice_split_first (λ c. eqb c b) xs 0 h
+
+  -- as slices are cut
+  pub cut_parts : (n : ℕ) → first ≡ n → (take n xs ≡ before_first (λ c. eqb c b) xs) × (take (length xs - (n + 1)) (drop (n + 1) xs) ≡ after_first (λ c. eqb c b) xs)
+  cut_parts n e = (ap (λ k. take k xs) (sym e), take_rest xs (n + 1) ∙ ap (λ k. drop (k + 1) xs) (sym e))

@@ -1,12 +1,7 @@
--- Where the first piece of a text ends, and the words of a line as tokens.
-use Rattle.std.specs.Prelude.{◌≡◌, ℕ, suc, true, cond, List, [], ◌∷◌, ◌==◌}
+-- The words of a line as tokens.
+use Rattle.std.specs.Prelude.{◌≡◌, ℕ, true, List, [], ◌∷◌}
 use Rattle.lines.specs.declared.line.Words.{Words}
 use Rattle.lines.specs.Words.{Reads, word_shaped}
-
--- how many bytes stand before the first byte b
-abbrev pub before : ℕ → List ℕ → ℕ
-before b [] = 0
-before b (c ∷ cs) = cond (c == b) 0 (suc (before b cs))
 
 -- the tokens of four words, each of one to ten bytes
 pub record Spread (t : Words) (ws : List (List ℕ)) : Type 0 where

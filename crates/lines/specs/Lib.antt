@@ -1,5 +1,6 @@
 pub mod Faults
 pub mod Words
+pub mod ShortWords
 pub mod Lines
 pub mod Cuts
 pub mod Heads

@@ -1,5 +1,7 @@
 -- The lines of an image, their words, and the place of the tables that a line fills.
 use Rattle.std.specs.Prelude.{ℕ, ◌/◌, ◌%◌, Bool, true, cond, ◌&&◌, List, [], ◌∷◌, length, ℤ, Some, None, Ok, Err, Option, Result, ◌==◌, nat_le}
+use Rattle.std.specs.List.{slice_split}
+use Rattle.std.specs.Option.{option_map}
 use Rattle.cells.specs.declared.cell.Cell.{Cell}
 use Rattle.cells.specs.declared.cell.Cell.TheVariants.{Reference, Pointer, Functor, Atom, Integer}
 use Rattle.cells.specs.Cells.{in_range}
@@ -11,19 +13,14 @@ use Rattle.lines.specs.declared.word.Part.{Part}
 use Rattle.lines.specs.declared.word.Part.TheVariants as part
 use Rattle.lines.specs.declared.item.Item.{Item}
 use Rattle.lines.specs.declared.item.Item.TheVariants as item
-use Rattle.lines.specs.Words.{word_shaped, part_named, letter, natural, integer}
+use Rattle.lines.specs.Words.{word_shaped, part_named, letter, natural64, integer64}
 
 abbrev pub none : {A : Type 0} → List A → Bool
 none xs = length xs == 0
 
-abbrev pub at_front : ℕ → List (List ℕ) → List (List ℕ)
-at_front c [] = (c ∷ []) ∷ []
-at_front c (piece ∷ pieces) = (c ∷ piece) ∷ pieces
-
 -- the pieces between the bytes b; there is one more of them than bytes b
 abbrev pub split : ℕ → List ℕ → List (List ℕ)
-split b [] = [] ∷ []
-split b (c ∷ cs) = cond (c == b) ([] ∷ split b cs) (at_front c (split b cs))
+split b xs = slice_split (λ c. c == b) xs
 
 -- the words of a line stand between its single spaces
 abbrev pub words_of : List ℕ → List (List ℕ)
@@ -38,16 +35,12 @@ abbrev pub shaped : List (List ℕ) → Bool
 shaped ws = length ws == 4 && all_shaped ws
 
 -- a cell of a kind that has one, by its value as a natural number and as an integer
-abbrev pub mapped : {A B : Type 0} → (A → B) → Option A → Option B
-mapped f None = None
-mapped f (Some x) = Some (f x)
-
 abbrev pub cell_by : Kind → Option ℕ → Option ℤ → Option Cell
-cell_by kind.Reference n z = mapped Reference n
-cell_by kind.Pointer n z = mapped Pointer n
-cell_by kind.Functor n z = mapped (λ v. Functor (v / 64) (v % 64)) n
-cell_by kind.Atom n z = mapped Atom n
-cell_by kind.Integer n z = mapped Integer z
+cell_by kind.Reference n z = option_map Reference n
+cell_by kind.Pointer n z = option_map Pointer n
+cell_by kind.Functor n z = option_map (λ v. Functor (v / 64) (v % 64)) n
+cell_by kind.Atom n z = option_map Atom n
+cell_by kind.Integer n z = option_map Integer z
 cell_by kind.Number n z = None
 
 abbrev pub ranged : Option Cell → Option Cell
@@ -98,7 +91,7 @@ item_of [] = None
 item_of (p ∷ []) = None
 item_of (p ∷ i ∷ []) = None
 item_of (p ∷ i ∷ k ∷ []) = None
-item_of (p ∷ i ∷ k ∷ v ∷ []) = item_in (part_named p) (natural i) (letter k) (natural v) (integer v)
+item_of (p ∷ i ∷ k ∷ v ∷ []) = item_in (part_named p) (natural64 i) (letter k) (natural64 v) (integer64 v)
 item_of (p ∷ i ∷ k ∷ v ∷ w ∷ ws) = None
 
 abbrev pub or_bad_line : {A : Type 0} → ℕ → Option A → Result A LineFault

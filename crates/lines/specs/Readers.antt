@@ -1,11 +1,11 @@
 -- What a reader still has before it, and what it hands out.
-use Rattle.std.specs.Prelude.{◌≡◌, ℕ, ◌+◌, ◌<◌, List, [], ◌∷◌, length, drop, Some, None, Option}
+use Rattle.std.specs.Prelude.{◌≡◌, ℕ, ◌+◌, ◌<◌, List, [], ◌∷◌, length, Some, None, Option}
 use Rattle.lines.specs.declared.line.Line.{Line}
 use Rattle.lines.specs.declared.reader.Reader.{Reader}
 use Rattle.lines.specs.Lines.{split}
 
 abbrev pub rest : Reader → List ℕ
-rest r = drop r.at r.image.now
+rest r = r.rest.now
 
 -- a reader hands out its first line, and has the others before it
 pub record Gives (r s : Reader) (l : Line) : Type 0 where

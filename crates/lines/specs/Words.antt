@@ -1,5 +1,5 @@
 -- The words of an image line: names of parts, letters of kinds, natural numbers and integers.
-use Rattle.std.specs.Prelude.{◌≡◌, ℕ, zero, suc, ◌+◌, ◌-◌, ◌*◌, Bool, true, false, cond, not, ◌&&◌, List, [], ◌∷◌, length, drop, ℤ, pos, negsuc, Some, None, Ok, Err, codes, Option, Result, ◌==◌, nat_le, nat_lt, slice_index}
+use Rattle.std.specs.Prelude.{◌≡◌, ℕ, zero, suc, ◌+◌, ◌-◌, ◌*◌, ◌^◌, ◌<◌, Bool, true, false, cond, not, ◌&&◌, List, [], ◌∷◌, length, drop, ℤ, pos, negsuc, Some, None, Ok, Err, codes, Option, Result, ◌==◌, nat_le, nat_lt, slice_index}
 use Rattle.std.specs.Str.{all_ascii_digits, bytes_eq}
 use Rattle.lines.specs.declared.fault.WordFault.{WordFault}
 use Rattle.lines.specs.declared.fault.WordFault.TheVariants as fault
@@ -25,18 +25,31 @@ no_leading_zero (c ∷ d ∷ ds) = not (c == 48)
 abbrev pub natural : List ℕ → Option ℕ
 natural w = cond (no_leading_zero w && all_ascii_digits w) (Some (read_on 0 w)) None
 
--- an integer below 0 has a minus before its size; there is no minus before 0
-abbrev pub below0 : Option ℕ → Option ℤ
-below0 None = None
-below0 (Some zero) = None
-below0 (Some (suc n)) = Some (negsuc n)
+-- numbers are read up to 64 bits
+abbrev pub below64 : Option ℕ → Option ℕ
+below64 None = None
+below64 (Some n) = cond (nat_lt n (2 ^ 64)) (Some n) None
 
-abbrev pub from0 : Option ℕ → Option ℤ
-from0 None = None
-from0 (Some n) = Some (pos n)
+abbrev pub natural64 : List ℕ → Option ℕ
+natural64 w = below64 (natural w)
 
-abbrev pub integer : List ℕ → Option ℤ
-integer w = cond (slice_index w 0 == 45) (below0 (natural (drop 1 w))) (from0 (natural w))
+-- an integer below 0 has a minus, byte 45, before its size; there is no minus before 0
+abbrev pub negative : Option ℕ → Option ℤ
+negative None = None
+negative (Some zero) = None
+negative (Some (suc n)) = cond (nat_lt n (2 ^ 63)) (Some (negsuc n)) None
+
+abbrev pub positive : Option ℕ → Option ℤ
+positive None = None
+positive (Some n) = cond (nat_lt n (2 ^ 63)) (Some (pos n)) None
+
+abbrev pub integer64 : List ℕ → Option ℤ
+integer64 w = cond (slice_index w 0 == 45) (negative (natural64 (drop 1 w))) (positive (natural64 w))
+
+-- the integers of 64 bits
+abbrev pub Integer64 : ℤ → Type 0
+Integer64 (pos n) = n < 2 ^ 63
+Integer64 (negsuc n) = n < 2 ^ 63
 
 -- the kind of a letter: r, s, f, a, i and n
 abbrev pub kind_of : ℕ → Option Kind
@@ -91,20 +104,20 @@ kind_in (token.Number s) = None
 abbrev pub natural_in : Token → Option ℕ
 natural_in (token.Name s) = None
 natural_in (token.Letter s) = None
-natural_in (token.Number s) = natural s.now
+natural_in (token.Number s) = natural64 s.now
 
 abbrev pub integer_in : Token → Option ℤ
 integer_in (token.Name s) = None
 integer_in (token.Letter s) = None
-integer_in (token.Number s) = integer s.now
+integer_in (token.Number s) = integer64 s.now
 
 -- the token of a word reads as the word does
 pub record Reads (t : Token) (w : List ℕ) : Type 0 where
   pub bytes : bytes_of t ≡ w
   pub part : part_in t ≡ part_named w
   pub kind : kind_in t ≡ letter w
-  pub natural : natural_in t ≡ natural w
-  pub integer : integer_in t ≡ integer w
+  pub natural : natural_in t ≡ natural64 w
+  pub integer : integer_in t ≡ integer64 w
 
 -- a word without meaning at its place is a fault of its line's layout
 abbrev pub or_bad : {A : Type 0} → ℕ → Option A → Result A WordFault

@@ -2,6 +2,7 @@ ghost use Rattle.std.specs.Prelude.{◌≡◌};
 ghost use Rattle.lines.specs.Faults.{of_word};
 
 // Why a word of an image cannot be read. Each fault names the line, counted from 1.
+// Words and lines have faults of their own, each turned into the next by From.
 #[derive(Clone, Copy, PartialEq, Eq)]
 pub enum WordFault {
     // no byte, or more than ten

@@ -10,6 +10,6 @@ mod word;
 
 pub use fault::{LineFault, WordFault};
 pub use item::Item;
-pub use line::{Line, length_before};
+pub use line::{Line, cut};
 pub use reader::Reader;
-pub use word::{no_leading_zero, same};
+pub use word::{integer, natural, no_leading_zero};

@@ -1,12 +1,14 @@
-ghost use Rattle.std.specs.Prelude.{◌≡◌, ◌<◌, ◌≤◌, true, false, List, [], ◌∷◌, length, Some, None, Ok, Err, ◌==◌};
-ghost use Rattle.lines.specs.Words.{Reads, or_bad, bytes_of, part_in, kind_in, natural_in, integer_in};
-ghost use Rattle.lines.specs.Lines.{split, words_of, shaped, cell_by, ranged, cell_in, number_by, number_in, item_by, item_in, or_bad_line, line_read};
+ghost use Rattle.std.specs.Prelude.{◌≡◌, true, false, List, [], ◌∷◌, length, Some, Ok, Err, ◌==◌, MatchOption};
+ghost use Rattle.std.specs.List.{position_or_len, before_first, after_first};
+ghost use Rattle.lines.specs.Words.{or_bad, part_in, kind_in, natural_in, integer_in};
+ghost use Rattle.lines.specs.Lines.{split, words_of, shaped, cell_by, ranged, number_by, item_by, item_in, line_read};
 ghost use Rattle.lines.specs.Heads.{head_read};
-ghost use Rattle.lines.specs.Cuts.{before, Spread};
+ghost use Rattle.lines.specs.ShortWords.{ShortWords};
+ghost use Rattle.lines.specs.Cuts.{Spread};
 
 use super::fault::{LineFault, WordFault};
 use super::item::Item;
-use super::word::{Kind, Part, Token, same};
+use super::word::{Kind, Part, Token};
 use cells::Cell;
 
 // A line of an image without its byte 10, and its number, counted from 1.
@@ -25,61 +27,37 @@ pub(crate) struct Words<'a> {
     value: Token<'a>,
 }
 
-// How many bytes stand before the first byte `end`.
-pub fn length_before(bytes: &[u8], end: u8) -> usize
-    ensures { (result ≡ before end bytes.now) × (result ≤ length bytes.now) }
+// What stands before the first byte `end`, and what stands after it: none where no byte is `end`.
+pub fn cut(bytes: &[u8], end: u8) -> Option<(&[u8], &[u8])>
+    ensures parts { MatchOption result (position_or_len (λ b. b == end) bytes.now ≡ length bytes.now) (λ p. (p.0.now ≡ before_first (λ b. b == end) bytes.now) × (p.1.now ≡ after_first (λ b. b == end) bytes.now)) }
+    ensures pieces { MatchOption result (split end bytes.now ≡ bytes.now ∷ []) (λ p. split end bytes.now ≡ p.0.now ∷ split end p.1.now) }
 {
-    for (i, b) in bytes.iter().enumerate() {
-        if *b == end {
-            return i;
-        }
-    }
-    bytes.len()
-}
-
-// The bytes before the first space and those after it.
-fn cut<'a>(bytes: &'a [u8], line: u64) -> Result<(&'a [u8], &'a [u8]), LineFault>
-    ensures { elim result [
-      | Ok p ↦ words_of bytes.now ≡ p.0.now ∷ words_of p.1.now
-      | Err e ↦ (e ≡ LineFault.BadShape line) × (words_of bytes.now ≡ bytes.now ∷ [])
-    ] }
-{
-    let n = length_before(bytes, 32);
-    if n < bytes.len() {
-        Ok((&bytes[0..n], &bytes[n + 1..]))
-    } else {
-        Err(LineFault::BadShape { line })
-    }
+    let n = bytes.iter().position(|b| *b == end)?;
+    Some((&bytes[..n], &bytes[n + 1..]))
 }
 
 // The four pieces between the spaces of a line.
-fn four<'a>(
-    text: &'a [u8],
-    line: u64,
-) -> Result<(&'a [u8], &'a [u8], &'a [u8], &'a [u8]), LineFault>
-    ensures { elim result [
-      | Ok p ↦ words_of text.now ≡ p.0.now ∷ p.1.now ∷ p.2.now ∷ p.3.now ∷ []
-      | Err e ↦ (e ≡ LineFault.BadShape line) × ((length (words_of text.now) == 4) ≡ false)
-    ] }
+fn four(text: &[u8]) -> Option<(&[u8], &[u8], &[u8], &[u8])>
+    ensures { MatchOption result ((length (words_of text.now) == 4) ≡ false) (λ p. words_of text.now ≡ p.0.now ∷ p.1.now ∷ p.2.now ∷ p.3.now ∷ []) }
 {
-    let (part, rest) = cut(text, line)?;
-    let (index, rest) = cut(rest, line)?;
-    let (kind, value) = cut(rest, line)?;
-    if length_before(value, 32) < value.len() {
-        return Err(LineFault::BadShape { line });
+    let (part, rest) = cut(text, b' ')?;
+    let (index, rest) = cut(rest, b' ')?;
+    let (kind, value) = cut(rest, b' ')?;
+    match cut(value, b' ') {
+        None => Some((part, index, kind, value)),
+        Some(_) => None,
     }
-    Ok((part, index, kind, value))
 }
 
 // The four words of a line, each of one to ten bytes.
-fn cut_words<'a>(line: Line<'a>) -> Result<Words<'a>, LineFault>
+fn cut_words(line: Line<'_>) -> Result<Words<'_>, LineFault>
     ensures { elim result [
       | Ok w ↦ Spread w (words_of line.entry.text.now)
       | Err e ↦ (e ≡ LineFault.BadShape line.entry.number) × (shaped (words_of line.entry.text.now) ≡ false)
     ] }
 {
     let number = line.number;
-    let (part, index, kind, value) = four(line.text, number)?;
+    let (part, index, kind, value) = four(line.text).ok_or(LineFault::BadShape { line: number })?;
     Ok(Words {
         part: Token::of(part, number)?,
         index: Token::of(index, number)?,
@@ -89,81 +67,75 @@ fn cut_words<'a>(line: Line<'a>) -> Result<Words<'a>, LineFault>
 }
 
 // The cell of a kind, from the word of its value.
-fn cell(kind: Kind, value: Token, line: u64) -> Result<Cell, WordFault>
-    requires { length (bytes_of value) ≤ 10 }
-    ensures { result ≡ or_bad line (ranged (cell_by kind (natural_in value.entry) (integer_in value.entry))) }
+fn cell(kind: Kind, value: Token) -> Option<Cell>
+    ensures { result ≡ ranged (cell_by kind (natural_in value.entry) (integer_in value.entry)) }
 {
     let cell = match kind {
-        Kind::Reference => Cell::Reference(value.natural(line)?),
-        Kind::Pointer => Cell::Pointer(value.natural(line)?),
+        Kind::Reference => Cell::Reference(value.natural()?),
+        Kind::Pointer => Cell::Pointer(value.natural()?),
         Kind::Functor => {
-            let v = value.natural(line)?;
+            let v = value.natural()?;
             Cell::Functor {
                 name: v / 64,
                 arity: v % 64,
             }
         }
-        Kind::Atom => Cell::Atom(value.natural(line)?),
-        Kind::Integer => Cell::Integer(value.integer(line)?),
-        Kind::Number => return Err(WordFault::BadLayout { line }),
+        Kind::Atom => Cell::Atom(value.natural()?),
+        Kind::Integer => Cell::Integer(value.integer()?),
+        Kind::Number => return None,
     };
-    if cell.in_range() {
-        Ok(cell)
-    } else {
-        Err(WordFault::BadLayout { line })
-    }
+    cell.in_range().then_some(cell)
 }
 
 // A number up to 4,096, from its letter and the word of its value.
-fn number(kind: Kind, value: Token, line: u64) -> Result<u64, WordFault>
-    requires { length (bytes_of value) ≤ 10 }
-    ensures { result ≡ or_bad line (number_by kind (natural_in value.entry)) }
+fn number(kind: Kind, value: Token) -> Option<u64>
+    ensures { result ≡ number_by kind (natural_in value.entry) }
 {
     match kind {
-        Kind::Number => {
-            let n = value.natural(line)?;
-            if n <= 4096 {
-                Ok(n)
-            } else {
-                Err(WordFault::BadLayout { line })
-            }
-        }
-        _ => Err(WordFault::BadLayout { line }),
+        Kind::Number => value.natural().filter(|n| *n <= 4096),
+        _ => None,
     }
 }
 
 // The cell of a part that holds cells, or the number of one that holds numbers.
-fn place(part: Part, index: u64, kind: Kind, value: Token, line: u64) -> Result<Item, WordFault>
-    requires { length (bytes_of value) ≤ 10 }
-    ensures { result ≡ or_bad line (item_by part (Some index) (Some kind) (natural_in value.entry) (integer_in value.entry)) }
+fn place(part: Part, index: u64, kind: Kind, value: Token) -> Option<Item>
+    ensures { result ≡ item_by part (Some index) (Some kind) (natural_in value.entry) (integer_in value.entry) }
 {
-    match part {
-        Part::Heap => Ok(Item::Heap(index, cell(kind, value, line)?)),
-        Part::Register => Ok(Item::Register(index, cell(kind, value, line)?)),
-        Part::Trail => Ok(Item::Trail(index, number(kind, value, line)?)),
-        Part::HeapTop => Ok(Item::HeapTop(index, number(kind, value, line)?)),
-        Part::TrailTop => Ok(Item::TrailTop(index, number(kind, value, line)?)),
-        Part::Saved => Ok(Item::Saved(index, cell(kind, value, line)?)),
-    }
+    Some(match part {
+        Part::Heap => Item::Heap(index, cell(kind, value)?),
+        Part::Register => Item::Register(index, cell(kind, value)?),
+        Part::Trail => Item::Trail(index, number(kind, value)?),
+        Part::HeapTop => Item::HeapTop(index, number(kind, value)?),
+        Part::TrailTop => Item::TrailTop(index, number(kind, value)?),
+        Part::Saved => Item::Saved(index, cell(kind, value)?),
+    })
 }
 
 impl<'a> Words<'a> {
-    // What the words say.
+    // What the words say together.
+    fn said(self) -> Option<Item>
+        ensures { result ≡ item_in (part_in self.entry.part) (natural_in self.entry.index) (kind_in self.entry.kind) (natural_in self.entry.value) (integer_in self.entry.value) }
+    {
+        let part = self.part.part()?;
+        let index = self.index.natural()?;
+        let kind = self.kind.kind()?;
+        place(part, index, kind, self.value)
+    }
+
+    // The same; words that say nothing are a fault of their line's layout.
     fn item(self, line: u64) -> Result<Item, WordFault>
-        requires { (length (bytes_of self.index) ≤ 10) × (length (bytes_of self.value) ≤ 10) }
         ensures { result ≡ or_bad line (item_in (part_in self.entry.part) (natural_in self.entry.index) (kind_in self.entry.kind) (natural_in self.entry.value) (integer_in self.entry.value)) }
     {
-        let part = self.part.part(line)?;
-        let index = self.index.natural(line)?;
-        let kind = self.kind.kind(line)?;
-        place(part, index, kind, self.value, line)
+        self.said().ok_or(WordFault::BadLayout { line })
     }
 }
 
 impl<'a> Line<'a> {
-    // The place that the line fills, and what stands there.
+    // The place that the line fills, and what stands there. The limits of 64 bits refuse no number of a word of ten bytes.
+    #[tactic(auto, using(crate::proofs::ShortNumbers::short_words))]
     pub fn item(self) -> Result<Item, LineFault>
-        ensures { result ≡ line_read self.entry.number self.entry.text.now }
+        ensures result { result ≡ line_read self.entry.number self.entry.text.now }
+        ensures short { ShortWords }
     {
         let words = cut_words(self)?;
         let item = words.item(self.number)?;
@@ -175,7 +147,7 @@ impl<'a> Line<'a> {
         ensures { result ≡ head_read self.entry.number self.entry.text.now }
     {
         let _words = cut_words(self)?;
-        if same(self.text, b"part index kind value") {
+        if self.text == b"part index kind value".as_slice() {
             Ok(())
         } else {
             Err(LineFault::BadLayout { line: self.number })

@@ -1,8 +1,10 @@
-ghost use Rattle.std.specs.Prelude.{◌≡◌, ◌^◌, ◌<◌, ◌≤◌, true, false, length, IfSome, Some, Ok, Err};
-ghost use Rattle.std.specs.Str.{bytes_eq};
-ghost use Rattle.lines.specs.Words.{no_leading_zero, natural, below0, integer, kind_of, part_named, Reads, word_shaped, or_bad, bytes_of, part_in, kind_in, natural_in, integer_in};
+ghost use Rattle.std.specs.Prelude.{◌≡◌, true, false, ◌&&◌, Some, Ok, Err};
+ghost use Rattle.std.specs.Char.{is_ascii_digit};
+ghost use Rattle.std.specs.List.{list_all};
+ghost use Rattle.lines.specs.Words.{no_leading_zero, natural64, negative, integer64, kind_of, part_named, Reads, word_shaped, part_in, kind_in, natural_in, integer_in};
 
 use super::fault::WordFault;
+use std::str;
 
 // The kind that a letter of an image stands for.
 #[derive(Clone, Copy, PartialEq, Eq)]
@@ -34,7 +36,7 @@ pub enum Token<'a> {
     Number(&'a [u8]),
 }
 
-// The kind of a letter.
+// The kind of a letter. No TryFrom: an error would have nothing to say.
 fn kind_of(letter: u8) -> Option<Kind>
     ensures { result ≡ kind_of letter }
 {
@@ -56,79 +58,57 @@ pub fn no_leading_zero(word: &[u8]) -> bool
     match word {
         [] => false,
         [_] => true,
-        [first, _, ..] => *first != 48,
+        [first, _, ..] => *first != b'0',
     }
 }
 
-// The number that a word of digits stands for.
-fn natural_of(word: &[u8]) -> Option<u64>
-    requires { length word.now ≤ 10 }
-    ensures read { result ≡ natural word.now }
-    ensures small { IfSome result (λ n. n < 10 ^ 10) }
+// Decimal digits without a leading zero.
+fn is_numeral(word: &[u8]) -> bool
+    ensures { result ≡ (no_leading_zero word.now && list_all is_ascii_digit word.now) }
 {
-    if !no_leading_zero(word) {
+    no_leading_zero(word) && word.iter().all(|b| b.is_ascii_digit())
+}
+
+// The number of at most 64 bits that a word of digits stands for.
+pub fn natural(word: &[u8]) -> Option<u64>
+    ensures { result ≡ natural64 word.now }
+{
+    if !is_numeral(word) {
         return None;
     }
-    let mut n: u64 = 0;
-    for b in word {
-        if *b < 48 || *b > 57 {
-            return None;
-        }
-        n = 10 * n + (*b - 48) as u64;
-    }
-    Some(n)
+    str::from_utf8(word).ok()?.parse().ok()
 }
 
-// The integer of the given size below 0.
+// The integer of the given size below 0; there is no minus before 0.
 fn minus(size: u64) -> Option<i64>
-    requires { size < 10 ^ 10 }
-    ensures { result ≡ below0 (Some size) }
+    ensures { result ≡ negative (Some size) }
 {
-    if size == 0 {
-        None
-    } else {
-        Some(-1 - (size - 1) as i64)
+    let below = i64::try_from(size.checked_sub(1)?).ok()?;
+    Some(-1 - below)
+}
+
+// The integer of 64 bits that a word stands for.
+pub fn integer(word: &[u8]) -> Option<i64>
+    ensures { result ≡ integer64 word.now }
+{
+    match word {
+        [b'-', size @ ..] => minus(natural(size)?),
+        _ => i64::try_from(natural(word)?).ok(),
     }
 }
 
-// The integer that a word stands for.
-fn integer_of(word: &[u8]) -> Option<i64>
-    requires { length word.now ≤ 10 }
-    ensures { result ≡ integer word.now }
-{
-    if word.len() > 0 && word[0] == 45 {
-        minus(natural_of(&word[1..])?)
-    } else {
-        let size = natural_of(word)?;
-        Some(size as i64)
-    }
-}
-
-// Whether the bytes are the same.
-pub fn same(left: &[u8], right: &[u8]) -> bool
-    ensures { result ≡ bytes_eq left.now right.now }
-{
-    left == right
-}
-
-// The part of a name.
+// The part of a name. No TryFrom: an error would have nothing to say.
 fn part_named(name: &[u8]) -> Option<Part>
     ensures { result ≡ part_named name.now }
 {
-    if same(name, b"heap") {
-        Some(Part::Heap)
-    } else if same(name, b"reg") {
-        Some(Part::Register)
-    } else if same(name, b"trail") {
-        Some(Part::Trail)
-    } else if same(name, b"htop") {
-        Some(Part::HeapTop)
-    } else if same(name, b"ttop") {
-        Some(Part::TrailTop)
-    } else if same(name, b"saved") {
-        Some(Part::Saved)
-    } else {
-        None
+    match name {
+        b"heap" => Some(Part::Heap),
+        b"reg" => Some(Part::Register),
+        b"trail" => Some(Part::Trail),
+        b"htop" => Some(Part::HeapTop),
+        b"ttop" => Some(Part::TrailTop),
+        b"saved" => Some(Part::Saved),
+        _ => None,
     }
 }
 
@@ -140,56 +120,51 @@ impl<'a> Token<'a> {
           | Err e ↦ (e ≡ WordFault.BadShape line) × (word_shaped word.now ≡ false)
         ] }
     {
-        if word.len() == 0 || word.len() > 10 {
+        if word.len() > 10 {
             return Err(WordFault::BadShape { line });
         }
-        if word[0] < 58 {
-            Ok(Token::Number(word))
-        } else if word.len() == 1 {
-            Ok(Token::Letter(word))
-        } else {
-            Ok(Token::Name(word))
+        match word {
+            [] => Err(WordFault::BadShape { line }),
+            [..=b'9', ..] => Ok(Token::Number(word)),
+            [_] => Ok(Token::Letter(word)),
+            _ => Ok(Token::Name(word)),
         }
     }
 
-    pub(crate) fn part(self, line: u64) -> Result<Part, WordFault>
-        ensures { result ≡ or_bad line (part_in self.entry) }
-    {
-        let found = match self {
-            Token::Name(name) => part_named(name),
-            _ => None,
-        };
-        found.ok_or(WordFault::BadLayout { line })
-    }
-
-    pub(crate) fn kind(self, line: u64) -> Result<Kind, WordFault>
-        ensures { result ≡ or_bad line (kind_in self.entry) }
+    // This and the three after it have one case and one reader each.
+    pub(crate) fn part(self) -> Option<Part>
+        ensures { result ≡ part_in self.entry }
     {
         match self {
-            Token::Letter([letter]) => kind_of(*letter).ok_or(WordFault::BadLayout { line }),
-            _ => Err(WordFault::BadLayout { line }),
+            Token::Name(name) => part_named(name),
+            _ => None,
         }
     }
 
-    pub(crate) fn natural(self, line: u64) -> Result<u64, WordFault>
-        requires { length (bytes_of self) ≤ 10 }
-        ensures { result ≡ or_bad line (natural_in self.entry) }
+    pub(crate) fn kind(self) -> Option<Kind>
+        ensures { result ≡ kind_in self.entry }
     {
-        let found = match self {
-            Token::Number(digits) => natural_of(digits),
+        match self {
+            Token::Letter([letter]) => kind_of(*letter),
             _ => None,
-        };
-        found.ok_or(WordFault::BadLayout { line })
+        }
     }
 
-    pub(crate) fn integer(self, line: u64) -> Result<i64, WordFault>
-        requires { length (bytes_of self) ≤ 10 }
-        ensures { result ≡ or_bad line (integer_in self.entry) }
+    pub(crate) fn natural(self) -> Option<u64>
+        ensures { result ≡ natural_in self.entry }
     {
-        let found = match self {
-            Token::Number(digits) => integer_of(digits),
+        match self {
+            Token::Number(digits) => natural(digits),
             _ => None,
-        };
-        found.ok_or(WordFault::BadLayout { line })
+        }
+    }
+
+    pub(crate) fn integer(self) -> Option<i64>
+        ensures { result ≡ integer_in self.entry }
+    {
+        match self {
+            Token::Number(digits) => integer(digits),
+            _ => None,
+        }
     }
 }

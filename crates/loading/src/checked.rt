@@ -2,7 +2,7 @@ ghost use Rattle.std.specs.Prelude.{◌≡◌};
 ghost use Rattle.images.specs.Reading.{loaded, viewed};
 ghost use Rattle.images.specs.ImageLaws.{LoadedIsText, TextOne};
 
-use checking::{Work, first_fault};
+use checking::{Work, check};
 use images::{LoadFault, read};
 use tables::Memory;
 
@@ -13,16 +13,7 @@ pub fn load(image: &[u8]) -> Result<Memory, LoadFault>
     ensures text { LoadedIsText }
     ensures one { TextOne }
 {
-    let memory = match read(image) {
-        Ok(memory) => memory,
-        Err(fault) => return Err(fault),
-    };
-    let mut work = Work::new();
-    match first_fault(&memory, &mut work) {
-        None => Ok(memory),
-        Some(fault) => Err(LoadFault::BrokenRule {
-            rule: fault.rule,
-            line: fault.line,
-        }),
-    }
+    let memory = read(image)?;
+    check(&memory, &mut Work::new())?;
+    Ok(memory)
 }

@@ -3,6 +3,8 @@
 
 mod checked;
 mod described;
+mod numbers;
 
 pub use checked::load;
-pub use described::{Report, describe};
+pub use described::{Refused, describe, describe_whole};
+pub use numbers::Numbers;

@@ -72,11 +72,11 @@ is_want (Refused BrokenRule) = false
 is_want (Sees x) = false
 is_want (Tells v) = false
 is_want (Hands d) = false
-is_want (Counts u e p) = false
+is_want (Counts u) = false
 
 -- what usage answers is not compared
 abbrev pub Compared : Answer → Answer → Type 0
-Compared (Counts u e p) b = Unit {0}
+Compared (Counts u) b = Unit {0}
 Compared Nothing b = Nothing ≡ b
 Compared (Refused why) b = Refused why ≡ b
 Compared (Sees x) b = Sees x ≡ b

@@ -1,7 +1,6 @@
 pub mod Counts
 pub mod Members
 pub mod Words
-pub mod Ends
 pub mod Notes
 pub mod Walks
 pub mod Marked

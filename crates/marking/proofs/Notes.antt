@@ -61,15 +61,3 @@ module _ {P Q : ℕ → Type 0} (R : ℕ → Type 0) {s : ℕ → Bool} {p : Lis
         all = λ k h. ⊎_elim (λ x. b.kept k (a.all k x)) (λ x. b.all k x) (either k h);
         sum = omega (arith, a.sum, b.sum);
       }
-
-module _ {P : ℕ → Type 0} (Q : ℕ → Type 0) {s : ℕ → Bool} {p : List ℕ} {t : ℕ → Bool} {q : List ℕ} where
-  pub noted_as : Noted P s p t q → ((k : ℕ) → P k → Q k) → ((k : ℕ) → Q k → P k) → Noted Q s p t q
-  noted_as a to from =
-      record {
-        kept = a.kept;
-        stays = a.stays;
-        only = λ k h. ⊎_elim (λ old. inl old) (λ new. inr (to k new.0, new.1)) (a.only k h);
-        waits = a.waits;
-        all = λ k h. a.all k (from k h);
-        sum = a.sum;
-      }

@@ -18,10 +18,6 @@ module _ (h : Heap) where
   pub grown_then : {s t u : ℕ → Bool} → Grown h s t → Grown h t u → Grown h s u
   grown_then {s} {t} a b = record { kept = λ k e. b.kept k (a.kept k e); from = λ k e. from_from s t a.from (b.from k e) }
 
-  pub closed_done : (s : ℕ → Bool) (p : List ℕ) → Underway h s p → p ≡ [] → ClosedUnder h s
-  closed_done s p u e i j m l =
-      ⊎_elim (λ found. found) (λ waits. absurd (among_nowhere (subst (Among i) e waits))) (u.leads i j m l)
-
   -- from a closed set, with what was marked since
   pub underway_first : (P : ℕ → Type 0) (s : ℕ → Bool) (p : List ℕ) (t : ℕ → Bool) (q : List ℕ)
       → ClosedUnder h s → p ≡ [] → Noted P s p t q → Underway h t q

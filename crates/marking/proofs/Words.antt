@@ -13,9 +13,6 @@ use Rattle.marking.proofs.Notes.{noted_then}
 abbrev pub LedBelow : List Cell → ℕ → ℕ → Type 0
 LedBelow ws r k = (i : ℕ) × (i < r) × LeadsBy 0 (get_or ws i (Atom 0)) k
 
-pub led_none : (ws : List Cell) (k : ℕ) → LedBelow ws 0 k → ⊥
-led_none ws k l = omega (arith, l.1)
-
 -- a place past the end holds an atom, which leads nowhere
 led_at : (ws : List Cell) (r k : ℕ) → LeadsBy 0 (get_or ws r (Atom 0)) k → LedTo ws k
 led_at [] r k l = absurd (omega (arith, l.1))

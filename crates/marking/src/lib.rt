@@ -6,4 +6,4 @@ mod roots;
 mod walk;
 
 pub use pending::Pending;
-pub use roots::{mark_registers, mark_roots, mark_saved};
+pub use roots::{mark_roots, mark_words};

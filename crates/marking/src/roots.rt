@@ -1,6 +1,5 @@
 // Marking from registers and saved registers.
-ghost use Rattle.std.specs.Prelude.{◌≡◌, ◌<◌, [], length};
-ghost use Rattle.tables.specs.Tables.{choice_at};
+ghost use Rattle.std.specs.Prelude.{◌≡◌, []};
 ghost use Rattle.tables.specs.Views.{tables_of};
 ghost use Rattle.heaps.specs.Leads.{heap_of};
 ghost use Rattle.heaps.specs.Reached.{roots};
@@ -9,38 +8,22 @@ ghost use Rattle.marking.specs.Walks.{waiting};
 
 use super::pending::Pending;
 use super::walk::{finish, follow};
+use cells::Cell;
 use marks::Marks;
 use tables::Memory;
 
-// Adds all that the registers reach to the set.
-pub fn mark_registers<M: Marks>(memory: &Memory, marks: &mut M, pending: &mut Pending)
+// Adds all that the words reach to the set. `CellsLead` is true of some memories only, so it is a clause, here and below.
+pub fn mark_words<M: Marks>(memory: &Memory, words: &[Cell], marks: &mut M, pending: &mut Pending)
     requires cells { CellsLead (heap_of (tables_of memory.now).heap) }
-    requires words { WordsLead (tables_of memory.now).registers }
+    requires words { WordsLead words.now }
     requires closed { ClosedUnder (heap_of (tables_of memory.now).heap) (M.Marks.has marks.old) }
-    ensures marked { MarkedAll (heap_of (tables_of memory.now).heap) (tables_of memory.now).registers (M.Marks.has marks.old) (M.Marks.has marks.new) }
+    ensures marked { MarkedAll (heap_of (tables_of memory.now).heap) words.now (M.Marks.has marks.old) (M.Marks.has marks.new) }
     ensures closed { ClosedUnder (heap_of (tables_of memory.now).heap) (M.Marks.has marks.new) }
     ensures empty { waiting pending.new ≡ [] }
 {
-    pending.clear();
-    for r in 0..8 {
-        follow(0, memory.register(r), marks, pending);
-    }
-    finish(memory, marks, pending);
-}
-
-// Adds all that the saved registers of the k-th choice point, counted from the newest, reach to the set.
-pub fn mark_saved<M: Marks>(memory: &Memory, k: usize, marks: &mut M, pending: &mut Pending)
-    requires point { k < length (tables_of memory.now).choices }
-    requires cells { CellsLead (heap_of (tables_of memory.now).heap) }
-    requires words { WordsLead (choice_at (tables_of memory.now) k).saved }
-    requires closed { ClosedUnder (heap_of (tables_of memory.now).heap) (M.Marks.has marks.old) }
-    ensures marked { MarkedAll (heap_of (tables_of memory.now).heap) (choice_at (tables_of memory.now) k).saved (M.Marks.has marks.old) (M.Marks.has marks.new) }
-    ensures closed { ClosedUnder (heap_of (tables_of memory.now).heap) (M.Marks.has marks.new) }
-    ensures empty { waiting pending.new ≡ [] }
-{
-    pending.clear();
-    for r in 0..8 {
-        follow(0, memory.saved(k, r), marks, pending);
+    pending.cells.truncate(0);
+    for word in words {
+        follow(0, *word, marks, pending);
     }
     finish(memory, marks, pending);
 }
@@ -54,8 +37,8 @@ pub fn mark_roots<M: Marks>(memory: &Memory, marks: &mut M, pending: &mut Pendin
     ensures empty { waiting pending.new ≡ [] }
 {
     marks.clear();
-    mark_registers(memory, marks, pending);
+    mark_words(memory, &memory.registers(), marks, pending);
     for k in 0..memory.depth() {
-        mark_saved(memory, k, marks, pending);
+        mark_words(memory, &memory.saved_registers(k), marks, pending);
     }
 }

@@ -5,6 +5,7 @@ use marks::{BitMarks, ByteMarks, CELLS, Marks, count_below};
 use std::test::Fail;
 use tables::Memory;
 
+// A cell that does not fit fails, here and in `hold`. Crates of tests share no code.
 fn push(memory: &mut Memory, cell: Cell) -> Result<(), Fail> {
     if memory.used() < 4096 && cell.in_range() {
         memory.push_cell(cell);
@@ -21,7 +22,8 @@ fn hold(memory: &mut Memory, r: usize, cell: Cell) -> Result<(), Fail> {
     Err(Fail::new("no such register"))
 }
 
-// The two are the same.
+// Fails where the two differ. Crates of tests share no code; `assert_eq!` would take a handle that may end the process,
+// which only a test itself has.
 fn check_eq<T: PartialEq + Copy>(found: T, expected: T) -> Result<(), Fail> {
     if found == expected {
         return Ok(());

@@ -19,14 +19,8 @@ fn full_round<M: Marks>(marks: &mut M) -> bool {
 }
 
 // How many of the rounds found every cell.
-fn full_rounds<M: Marks>(marks: &mut M) -> u64 {
-    let mut full = 0;
-    for _ in 0..ROUNDS {
-        if full_round(marks) {
-            full += 1;
-        }
-    }
-    full
+fn full_rounds<M: Marks>(marks: &mut M) -> usize {
+    (0..ROUNDS).filter(|_| full_round(marks)).count()
 }
 
 fn report<M: Marks>(rt: &HostRuntime, name: &str, marks: &mut M) -> io::Result<()> {

@@ -6,7 +6,8 @@ mod tests {
     use marks::{BitMarks, ByteMarks, CELLS, Marks, count_below};
     use std::test::Fail;
 
-    // The two are the same.
+    // Fails where the two differ. Crates of tests share no code; `assert_eq!` would take a handle that may end the process,
+    // which only a test itself has.
     fn check_eq<T: PartialEq + Copy>(found: T, expected: T) -> Result<(), Fail> {
         if found == expected {
             return Ok(());

@@ -1,7 +1,7 @@
 -- A table of bytes in which the listed cells have a 1 and all others a 0: one more cell, and no cell.
-use Rattle.std.proofs.Common.{◌≡◌, ℕ, zero, suc, ◌+◌, ◌<◌, ◌≤◌, true, false, cond, eqb, ◌≢◌, ◌⊎◌, List, [], ◌∷◌, ◌++◌, length, get_or, drop, set, replicate, sym, refl, ap, ◌∙◌, ap₂, inl, inr, ⊎_elim, arith, get_or-set_other, get_or-set_same}
-use Rattle.std.proofs.lemmas.List.{get_or_past, drop_more, drop_all}
-use Rattle.std.proofs.lemmas.Bool.{cases_eq, cases_lt, cases_Bool, both_ways, cond-true, cond-false, or_cases, eqb-true}
+use Rattle.std.proofs.Common.{◌≡◌, ℕ, zero, suc, ◌+◌, ◌<◌, ◌≤◌, true, false, cond, ◌≢◌, ◌⊎◌, List, [], ◌∷◌, ◌++◌, length, get_or, drop, set, replicate, sym, refl, ap, ◌∙◌, ap₂, ⊎_elim, arith, get_or-set_other, get_or-set_same}
+use Rattle.std.proofs.lemmas.List.{get_or_past, drop_all}
+use Rattle.std.proofs.lemmas.Bool.{cases_eq, cases_lt, cases_Bool, both_ways, cond-true, cond-false}
 use Rattle.std.proofs.lemmas.Bool.Decides.{nat_tests}
 use Rattle.heaps.specs.Lists.{is_in}
 use Rattle.heaps.proofs.InLaws.{in_last, in_other}
@@ -57,26 +57,6 @@ module _ (bytes cells : List ℕ) (ones : Ones bytes cells) where
 -- The bytes that are not 0 belong to cells that are listed from place p on.
 abbrev pub LeftFrom : ℕ → List ℕ → List ℕ → Type 0
 LeftFrom p bytes cells = (k : ℕ) → (get_or bytes k 0 ≡ 0) ⊎ (is_in k (drop p cells) ≡ true)
-
-pub left_first : (bytes cells : List ℕ) → Ones bytes cells → LeftFrom 0 bytes cells
-left_first bytes cells ones k =
-    ⊎_elim (λ t. inr t) (λ (f : is_in k cells ≡ false). inl (ones k ∙ cond-false (is_in k cells) 1 0 f)) (cases_Bool (is_in k cells))
-
-pub left_more : (p : ℕ) (bytes cells : List ℕ) (n : ℕ) → n ≡ get_or cells p 0 → p < length cells → n < length bytes → LeftFrom p bytes cells
-    → LeftFrom (p + 1) (set bytes n 0) cells
-left_more p bytes cells n is lt inside left k =
-    ⊎_elim
-    (λ (e : k ≡ n). inl (ap (λ j. get_or (set bytes n 0) j 0) e ∙ get_or-set_same bytes n 0 0 inside))
-    (λ (ne : k ≢ n).
-    ⊎_elim
-    (λ z. inl (get_or-set_other bytes n k 0 0 ne ∙ z))
-    (λ t.
-    ⊎_elim
-    (λ here. absurd (ne (sym (eqb-true (get_or cells p 0) k here) ∙ sym is)))
-    (λ later. inr later)
-    (or_cases (eqb (get_or cells p 0) k) (is_in k (drop (p + 1) cells)) (sym (ap (is_in k) (drop_more cells p 0 lt)) ∙ t)))
-    (left k))
-    (cases_eq k n)
 
 pub left_none : (p : ℕ) (bytes cells : List ℕ) → length cells ≤ p → LeftFrom p bytes cells → bytes ≡ replicate (length bytes) 0
 left_none p bytes cells past left =

@@ -13,6 +13,7 @@ use reading::{leads, refers_to};
 use tables::Memory;
 
 // Whether variable x occurs in what the word spells. Each cell that the word reaches is visited at most once.
+// That the table is blank before and after is an invariant of `Work`; here the table is lent alone.
 pub fn occurs(memory: &Memory, x: u64, word: Cell, table: &mut VisitTable) -> bool
     requires stands { Stands (tables_of memory.now) }
     requires keeps { Keeps (tables_of memory.now) word }
@@ -23,6 +24,7 @@ pub fn occurs(memory: &Memory, x: u64, word: Cell, table: &mut VisitTable) -> bo
 {
     let seen = Visits { table };
     follow(0, word, seen.table);
+    // the list grows while it is walked, so it is walked by number
     let mut place = 0;
     while place < seen.table.len() {
         let at = seen.table.at(place);
@@ -36,7 +38,7 @@ pub fn occurs(memory: &Memory, x: u64, word: Cell, table: &mut VisitTable) -> bo
     false
 }
 
-// Visits what the word in the cell `at` leads to.
+// Visits what the word in the cell `at` leads to: `follow` of marking, with a table in place of marks and waiting cells.
 fn follow(at: u64, word: Cell, table: &mut VisitTable)
     requires at { at < 4096 }
     requires inside { (k : ℕ) → LeadsBy at word k → k < 4096 }

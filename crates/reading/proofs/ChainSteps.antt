@@ -1,13 +1,13 @@
 -- The chain that a word begins, step by step.
-use mathlib.Core.Path.{◌≡◌, refl, ap, ◌∙◌, sym, subst}
-use mathlib.Core.Bool.{Bool, true, false, cond}
+use mathlib.Core.Path.{◌≡◌, ap, ◌∙◌, sym, subst}
+use mathlib.Core.Bool.{false}
 use Prim.Native.Nat.{ℕ, ◌<◌}
 use native.Mathlib.Omega.{arith}
 use Rattle.cells.specs.declared.cell.Cell.{Cell}
-use Rattle.cells.specs.declared.cell.Cell.TheVariants.{Reference, Pointer, Functor, Atom, Integer}
+use Rattle.cells.specs.declared.cell.Cell.TheVariants.{Reference}
 use Rattle.tables.specs.Tables.{Tables, used, cell_at}
 use Rattle.heaps.specs.Leads.{heap_of, refers_to}
-use Rattle.heaps.specs.Ends.{end_by, end, steps_to_end}
+use Rattle.heaps.specs.Ends.{end, steps_to_end}
 use Rattle.heaps.specs.LevelLaws.{Stands, Keeps}
 use Rattle.heaps.proofs.Sound.{rules_sound, cell_keeps}
 use Rattle.heaps.proofs.KeptWords.{cell_ranged}
@@ -29,15 +29,3 @@ module _ (t : Tables) (stands : Stands t) where
 
     pub chain_keeps : Keeps t at → Keeps t next
     chain_keeps k = subst (Keeps t) (sym holds) (next_keeps n (subst (Keeps t) is k))
-
-    pub chain_ends : refers_to n next ≡ true → end t at ≡ Reference n
-    chain_ends free =
-        ap (end t) is
-        ∙ ap (λ (b : Bool). cond b (Reference n) (end_by (used t) (heap_of t.heap) (cell_at t n))) (sym (ap (refers_to n) holds) ∙ free)
-
-pub end_other : (t : Tables) (c : Cell) → ((n : ℕ) → c ≡ Reference n → ⊥) → end t c ≡ c
-end_other t (Reference n) other = absurd (other n refl)
-end_other t (Pointer n) other = refl
-end_other t (Functor name arity) other = refl
-end_other t (Atom n) other = refl
-end_other t (Integer z) other = refl

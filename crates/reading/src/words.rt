@@ -5,17 +5,16 @@ ghost use Rattle.heaps.specs.Spelling.{arity_of};
 use cells::Cell;
 
 // Where the word in the cell `at` leads: to so many neighbouring cells from the first on.
+// A pair and no range, since a range could not hold the cell of `Reference(u64::MAX)`.
 pub fn leads(at: u64, word: Cell) -> (u64, u64)
     requires { at < 4096 }
     ensures first { result.0 ≡ first at word }
     ensures many { result.1 ≡ many word }
 {
     match word {
-        Cell::Reference(n) => (n, 1),
-        Cell::Pointer(n) => (n, 1),
+        Cell::Reference(n) | Cell::Pointer(n) => (n, 1),
         Cell::Functor { name: _, arity } => (at + 1, arity),
-        Cell::Atom(_) => (0, 0),
-        Cell::Integer(_) => (0, 0),
+        Cell::Atom(_) | Cell::Integer(_) => (0, 0),
     }
 }
 
@@ -23,10 +22,7 @@ pub fn leads(at: u64, word: Cell) -> (u64, u64)
 pub fn refers_to(word: Cell, n: u64) -> bool
     ensures { result ≡ refers_to n word }
 {
-    match word {
-        Cell::Reference(m) => m == n,
-        _ => false,
-    }
+    word == Cell::Reference(n)
 }
 
 // How many arguments a functor has; 0 for any other word.

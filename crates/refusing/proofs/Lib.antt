@@ -1,3 +1,3 @@
-pub mod FirstHit
+pub mod Checks
 pub mod NoCells
 pub mod ArgumentCells

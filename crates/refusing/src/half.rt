@@ -24,8 +24,8 @@ impl Half {
         ensures { result ≡ record { at = self.at; missing = pred self.missing } }
     {
         Half {
-            at: self.at,
             missing: self.missing - 1,
+            ..self
         }
     }
 }

@@ -1,4 +1,4 @@
-//! With what a call is refused, in the order of the refusals' numbers.
+//! Whether a call is accepted, and with what it is refused, in the order of the refusals' numbers.
 #![tactic(auto)]
 
 mod arguments;
@@ -7,4 +7,4 @@ mod refusals;
 
 pub use arguments::argument;
 pub use half::Half;
-pub use refusals::refused;
+pub use refusals::admit;

@@ -2,6 +2,7 @@
 // its answer. docs/REPLAY.md has the lines and the answers.
 #![tactic(auto)]
 
+use calls::Answer;
 use replaying::{Bench, Entry, Reply, parse};
 use std::io;
 use std::io::{BufRead, BufReader, BufWriter, Write};
@@ -24,14 +25,15 @@ fn read_image<R: BufRead>(input: &mut R, lines: u64, image: &mut Vec<u8>) -> io:
 
 // Loads an image and prints the answer, and a line more where a structure that was half made is given up.
 fn load<W: Write>(bench: &mut Bench, image: &[u8], out: &mut W) -> io::Result<()> {
-    match bench.load(image) {
-        Ok(true) => out.write_all(b" -> ok\nslip voided\n"),
-        Ok(false) => out.write_all(b" -> ok\n"),
-        Err(fault) => {
-            let reply = Reply::NotLoaded(fault);
-            writeln!(out, " -> {reply}")
-        }
+    let (reply, voided) = match bench.load(image) {
+        Ok(voided) => (Reply::Answered(Answer::Nothing), voided),
+        Err(fault) => (Reply::NotLoaded(fault), false),
+    };
+    writeln!(out, " -> {reply}")?;
+    if voided {
+        out.write_all(b"slip voided\n")?;
     }
+    Ok(())
 }
 
 // Carries out each line of standard input and prints its answer.
@@ -40,6 +42,7 @@ fn replay(rt: &HostRuntime, bench: &mut Bench) -> io::Result<()> {
     let mut out = BufWriter::new(rt.alloc(), rt.stdout())?;
     let mut line = Vec::new(rt.alloc());
     let mut image = Vec::new(rt.alloc());
+    // by hand, since an image is read from the same input between two lines; the bound ends the loop for the proof
     for _ in 0..u64::MAX {
         line.clear();
         if input.read_until(b'\n', &mut line)? == 0 {
@@ -48,16 +51,16 @@ fn replay(rt: &HostRuntime, bench: &mut Bench) -> io::Result<()> {
         let text = without_end(line.as_slice());
         out.write_all(text)?;
         match parse(text) {
-            Entry::Note => out.write_all(b"\n")?,
-            Entry::Request(request) => {
+            Some(Entry::Note) => out.write_all(b"\n")?,
+            Some(Entry::Request(request)) => {
                 let reply = bench.perform(request);
                 writeln!(out, " -> {reply}")?;
             }
-            Entry::Load { lines } => {
+            Some(Entry::Load { lines }) => {
                 read_image(&mut input, lines, &mut image)?;
                 load(bench, image.as_slice(), &mut out)?;
             }
-            Entry::NotACall => {
+            None => {
                 let reply = Reply::NotACall;
                 writeln!(out, " -> {reply}")?;
             }

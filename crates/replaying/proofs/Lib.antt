@@ -1,5 +1,3 @@
-pub mod NumbersBack
-pub mod NumbersRead
 pub mod Reloading
 pub mod SlipsAgree
 pub mod Spaces

@@ -1,8 +1,7 @@
 -- A store from an image has no structure half made; with it, and without a slip, a bench is what an image makes of it.
 use Rattle.std.proofs.Common.{◌≡◌, ℕ, Bool, Some, None, Ok, Err, Option, Result, refl, ap, ap₂, arith}
-use Rattle.std.specs.Option as std
 use Rattle.tables.specs.Tables.{Tables}
-use Rattle.calls.specs.Refusals.{is_some}
+use Rattle.std.specs.Option.{is_some}
 use Rattle.calls.specs.Steps.{State, draft}
 use Rattle.images.specs.declared.fault.LoadFault.{LoadFault}
 use Rattle.store.specs.declared.store.Slip.{Slip}
@@ -10,7 +9,7 @@ use Rattle.store.specs.Loaded.{opened}
 use Rattle.replaying.specs.Slips.{slip_of}
 use Rattle.replaying.specs.Benches.{BenchState, reloaded}
 
-pub some_slip : (o : Option Slip) → std.is_some o ≡ is_some (slip_of o)
+pub some_slip : (o : Option Slip) → is_some o ≡ is_some (slip_of o)
 some_slip None = refl
 some_slip (Some slip) = refl
 

@@ -3,7 +3,7 @@ use Rattle.std.specs.Prelude.{Bool, true, false, cond, Ok, Err, Result, Option, 
 use Rattle.std.specs.declared.option.Option as std
 use Rattle.tables.specs.Tables.{Tables}
 use Rattle.images.specs.declared.fault.LoadFault.{LoadFault}
-use Rattle.calls.specs.Refusals.{is_some}
+use Rattle.std.specs.Option.{is_some}
 use Rattle.calls.specs.declared.Draft.{Draft}
 use Rattle.calls.specs.declared.Call.{Call}
 use Rattle.calls.specs.declared.Call.TheVariants as call
@@ -79,7 +79,7 @@ slip_after r slip (Refused why) = slip
 slip_after r slip (Sees x) = slip
 slip_after r slip (Tells v) = slip
 slip_after r slip (Hands x) = Some x
-slip_after r slip (Counts u e p) = slip
+slip_after r slip (Counts u) = slip
 
 abbrev pub answered_by : Request → Option Draft → Answer × State → Reply × BenchState
 answered_by r slip x = (Answered x.0, record { state = x.1; slip = slip_after r slip x.0 })

@@ -31,8 +31,8 @@ answer_text (Refused why) = codes "refused " ++ decimal (number_of why)
 answer_text (Sees seen) = seen_text seen
 answer_text (Tells verdict) = verdict_text verdict
 answer_text (Hands slip) = codes "slip " ++ (decimal (slip.name * 64 + slip.arity) ++ (codes " " ++ decimal slip.missing))
-answer_text (Counts used entries points) =
-    codes "used " ++ (decimal used ++ (codes " trail " ++ (decimal entries ++ (codes " choices " ++ decimal points))))
+answer_text (Counts u) =
+    codes "used " ++ (decimal u.used ++ (codes " trail " ++ (decimal u.entries ++ (codes " choices " ++ decimal u.points))))
 
 -- the refusal, the number of the broken rule, 0 for none, and the line at fault
 abbrev pub not_loaded_text : LoadFault → List ℕ

@@ -1,6 +1,7 @@
 -- The text of a request: its name and its numbers, with one space between.
-use Rattle.std.specs.Prelude.{◌≡◌, ℕ, ◌^◌, ◌<◌, ◌↔◌, List, [], ◌∷◌, ◌++◌, ℤ, pos, negsuc, codes, decimal}
+use Rattle.std.specs.Prelude.{◌≡◌, ℕ, ◌^◌, ◌<◌, ◌↔◌, List, [], ◌∷◌, ◌++◌, Some, codes, decimal}
 use Rattle.std.specs.Fmt.{signed_decimal}
+use Rattle.lines.specs.Words.{Integer64}
 use Rattle.replaying.specs.declared.request.Request.{Request}
 use Rattle.replaying.specs.declared.request.Request.TheVariants.{Var, Atom, Int, Move, Look, Arg, Same, Unify, Open, Retry, Last, Cut, Start, Put, Hole, Done, Void, Usage}
 use Rattle.replaying.specs.declared.request.Entry.TheVariants.{Request as Asks, Load}
@@ -57,10 +58,6 @@ line_of r = spaced (name_of r) (numbers_of r)
 abbrev pub load_line : ℕ → List ℕ
 load_line lines = spaced (codes "load") (decimal lines ∷ [])
 
-abbrev pub Integer64 : ℤ → Type 0
-Integer64 (pos n) = n < 2 ^ 63
-Integer64 (negsuc n) = n < 2 ^ 63
-
 -- the numbers have 64 bits
 abbrev pub Fits : Request → Type 0
 Fits (Var d) = d < 2 ^ 64
@@ -84,8 +81,8 @@ Fits Usage = Unit {0}
 
 -- A line is a request exactly where it is the text of that request, whose numbers have 64 bits.
 abbrev pub RequestIsText : Type 0
-RequestIsText = (line : List ℕ) (r : Request) → (entry_of line ≡ Asks r) ↔ ((line ≡ line_of r) × Fits r)
+RequestIsText = (line : List ℕ) (r : Request) → (entry_of line ≡ Some (Asks r)) ↔ ((line ≡ line_of r) × Fits r)
 
 -- A line announces an image exactly where it is the text of that.
 abbrev pub LoadIsText : Type 0
-LoadIsText = (line : List ℕ) (lines : ℕ) → (entry_of line ≡ Load lines) ↔ ((line ≡ load_line lines) × (lines < 2 ^ 64))
+LoadIsText = (line : List ℕ) (lines : ℕ) → (entry_of line ≡ Some (Load lines)) ↔ ((line ≡ load_line lines) × (lines < 2 ^ 64))

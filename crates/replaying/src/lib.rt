@@ -6,7 +6,6 @@ pub mod bench;
 pub mod parsing;
 pub mod reply;
 pub mod request;
-mod word;
 
 pub use bench::Bench;
 pub use parsing::parse;

@@ -3,7 +3,7 @@ use images::LoadFault;
 
 pub mod printing;
 
-// What is answered to a line.
+// What is answered to a line: all that is printed after an arrow, so that it has one Display.
 #[derive(Clone, Copy)]
 pub enum Reply {
     Answered(Answer),

@@ -1,4 +1,5 @@
-// A call with its numbers. D, S and T are registers; put, hole, done and void go to the structure that is half made.
+// A call with its numbers. D, S and T are registers; put, hole, done and void go to the structure that is half made. It is no
+// `Call`, since it names no slip, and a list cannot ask for a collection.
 #[derive(Clone, Copy)]
 pub enum Request {
     Var { d: u64 },
@@ -29,5 +30,4 @@ pub enum Entry {
     Request(Request),
     // the next lines, so many of them, are an image
     Load { lines: u64 },
-    NotACall,
 }

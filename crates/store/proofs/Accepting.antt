@@ -1,15 +1,14 @@
 -- A call that no test hits is carried out; any other is refused, and changes nothing.
-use Rattle.std.proofs.Common.{◌≡◌, ℕ, ◌+◌, ◌<◌, ◌≤◌, Bool, true, false, cond, eqb, ltb, List, [], ◌∷◌, length, sym, refl, ap, ◌∙◌, arith, Option, Some, None}
-use Rattle.std.proofs.lemmas.Bool.{ltb-false, le-ltb, eqb-false}
+use Rattle.std.proofs.Common.{◌≡◌, ℕ, ◌+◌, Bool, true, false, cond, ltb, List, [], ◌∷◌, sym, refl, ap, ◌∙◌, arith, Option, Some, None}
+use Rattle.std.proofs.lemmas.Bool.{ltb-false}
 use Rattle.cells.specs.declared.refusal.Refusal.{Refusal}
 use Rattle.cells.specs.declared.refusal.Refusal.TheVariants.{NoCells}
 use Rattle.tables.specs.Tables.{Tables, used}
 use Rattle.calls.specs.declared.Call.{Call}
-use Rattle.calls.specs.declared.Call.TheVariants.{Usage}
 use Rattle.calls.specs.declared.Answer.{Answer}
 use Rattle.calls.specs.declared.Answer.TheVariants.{Refused}
 use Rattle.calls.specs.Refusals.{first_hit, cells_needed}
-use Rattle.calls.specs.Steps.{State, usage, act, unless, refusal_of, step}
+use Rattle.calls.specs.Steps.{State, act, unless, refusal_of, step}
 use Rattle.calls.proofs.KeepSteps.{Missed, Accepted}
 use Rattle.refusing.specs.Refused.{or_full, refusal_for}
 
@@ -51,10 +50,3 @@ accepted c s e =
     let n = used s.tables + cells_needed c in
     let h = or_full_none (refusal_of c s) (ltb 4096 n) (sym e) in
     (missed _ h.0, ltb-false 4096 n h.1)
-
-pub choice_there : (s : State) → eqb (length s.tables.choices) 0 ≡ false → 0 < length s.tables.choices
-choice_there s e = omega (arith, eqb-false (length s.tables.choices) 0 e)
-
--- Usage is never refused.
-pub step_usage : (left : Tables) (s : State) → used s.tables ≤ 4096 → step Usage left s ≡ (usage s.tables, s)
-step_usage left s h = step_accepted Usage left s (ap (λ (b : Bool). cond b (Some NoCells) None) (le-ltb 4096 (used s.tables + 0) (omega arith)))

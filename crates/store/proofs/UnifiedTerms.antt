@@ -1,8 +1,7 @@
 -- Unifying two registers in the subject's words: from what `unify_words` gives to unifiers of the terms that registers spell.
-use Rattle.std.proofs.Common.{◌≡◌, ℕ, Bool, true, false, List, get_or, Ok, sym, refl, ap, ◌∙◌, subst, Option, Some, None}
+use Rattle.std.proofs.Common.{◌≡◌, ℕ, Bool, true, false, List, get_or, Ok, refl, ap, ◌∙◌, subst, Option, Some, None}
 use Rattle.cells.specs.declared.cell.Cell.{Cell}
 use Rattle.cells.specs.declared.cell.Cell.TheVariants.{Atom}
-use Rattle.cells.specs.declared.answer.Verdict.TheVariants.{No}
 use Rattle.tables.specs.Tables.{Tables, register}
 use Rattle.terms.specs.Terms.{var}
 use Rattle.terms.specs.Unifiers.{Subst}
@@ -10,14 +9,10 @@ use Rattle.terms.specs.Robinson.{unify}
 use Rattle.heaps.specs.Spelling.{spell}
 use Rattle.heaps.specs.LevelLaws.{Stands}
 use Rattle.heaps.proofs.KeptWords.{keeps_register}
-use Rattle.calls.specs.declared.Call.TheVariants.{Unify}
-use Rattle.calls.specs.declared.Answer.TheVariants.{Tells}
-use Rattle.calls.specs.Steps.{State, keeping, if_unified, act}
 use Rattle.calls.specs.UnifyLaws.{BothBound, MadeEqual}
 use Rattle.calls.proofs.UnifySteps.{unify_steps}
 use Rattle.calls.proofs.UnifyMostGeneral.{unify_iso}
 use Rattle.unifying.specs.Unified.{Unified}
-use Rattle.store.specs.Called.{agrees}
 use Rattle.store.specs.Unified.{UnifiesTerms}
 
 -- unifying leaves the words in the registers
@@ -34,9 +29,3 @@ unifies_terms t u a b true st done =
     (made.0, made.1, λ r. ap (λ (ws : List Cell). spell u.heap (get_or ws r (Atom 0))) (same_registers t u _ bound) ∙ made.3 (register t r))
 unifies_terms t u a b false st done =
     (subst (MadeEqual t (register t a) (register t b)) done.result (unify_iso t (register t a) (register t b) st (keeps_register t a st) (keeps_register t b st)), done.undone refl)
-
--- the answer and the state are those of the call
-pub unify_acts : (left : Tables) (s : State) (u : Tables) (a b : ℕ) (answer : Bool) → Unified s.tables (register s.tables a) (register s.tables b) u answer
-    → (agrees answer, keeping s u) ≡ act (Unify a b) left s
-unify_acts left s u a b true done = sym (ap (if_unified s) done.result)
-unify_acts left s u a b false done = ap (λ (v : Tables). (Tells No, keeping s v)) (done.undone refl) ∙ sym (ap (if_unified s) done.result)

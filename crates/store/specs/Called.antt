@@ -1,14 +1,14 @@
 -- What a call of a store answers and leaves.
-use Rattle.std.specs.Prelude.{◌≡◌, Bool, Ok, Err, Result}
+use Rattle.std.specs.Prelude.{◌≡◌, Ok, Err, Result}
 use Rattle.cells.specs.declared.refusal.Refusal.{Refusal}
 use Rattle.tables.specs.Views.{tables_of}
 use Rattle.calls.specs.declared.Call.{Call}
 use Rattle.calls.specs.declared.Answer.{Answer}
-use Rattle.calls.specs.declared.Answer.TheVariants.{Nothing, Refused, Tells, Hands, Counts}
-use Rattle.calls.specs.Steps.{State, step, verdict}
+use Rattle.calls.specs.declared.Answer.TheVariants.{Refused, Hands}
+use Rattle.calls.specs.Steps.{State, step}
+pub use Rattle.calls.specs.Told.{told, nothing, agrees}
 use Rattle.store.specs.declared.store.Slip.{Slip}
 use Rattle.store.specs.declared.store.Store.{Store}
-use Rattle.store.specs.declared.store.Usage.{Usage}
 use Rattle.refusing.specs.States.{state_of}
 
 abbrev pub state : Store → State
@@ -17,18 +17,6 @@ state s = state_of s.memory s.half
 -- what a call that is no collection answers and leaves
 abbrev pub called : Call → Store → Answer × State
 called c s = step c (tables_of s.memory) (state s)
-
--- A Rust result as an answer: `say` tells an accepted call's value.
-abbrev pub told : {A : Type 0} → (A → Answer) → Result A Refusal → Answer
-told say (Ok a) = say a
-told say (Err why) = Refused why
-
-abbrev pub nothing : {A : Type 0} → A → Answer
-nothing a = Nothing
-
--- the answer of same and unify
-abbrev pub agrees : Bool → Answer
-agrees b = Tells (verdict b)
 
 abbrev pub Unchanged : Store → Store → Type 0
 Unchanged s t = (t.memory ≡ s.memory) × (t.half ≡ s.half) × (t.work ≡ s.work)
@@ -49,6 +37,3 @@ HandsBack (Err e) slip = e.1 ≡ slip
 
 abbrev pub hands : Slip → Answer
 hands slip = Hands slip.draft
-
-abbrev pub counts : Usage → Answer
-counts u = Counts u.used u.entries u.points

@@ -1,6 +1,7 @@
 // The store and its calls.
-#![tactic(auto)]
+#![tactic(auto, using(crate::proofs::Keeping::stands, crate::proofs::Keeping::register_keeps))]
 
 pub mod store;
 
-pub use store::{Slip, Store, Usage};
+pub use store::{Slip, Store};
+pub use tables::Usage;

@@ -14,6 +14,7 @@ mod registers;
 mod structures;
 
 // Tables that keep the rules, the structure that is half made, if there is one, and spare tables that same and unify work in.
+// Each call says itself that a refusal changes nothing: that is a fact of a store before and after, which no invariant holds.
 #[derive(Drop)]
 pub struct Store {
     memory: Memory,
@@ -25,12 +26,4 @@ pub struct Store {
 // What start hands out for a structure that is half made. Only done and void spend it.
 pub struct Slip {
     draft: Draft,
-}
-
-// How many cells, trail entries and choice points are in use.
-#[derive(Clone, Copy)]
-pub struct Usage {
-    pub used: u64,
-    pub entries: u64,
-    pub points: u64,
 }

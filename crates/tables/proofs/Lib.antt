@@ -1,4 +1,2 @@
-pub mod Listed
 pub mod Views
 pub mod Lengths
-pub mod Lasts

@@ -2,6 +2,7 @@
 use Rattle.std.specs.Prelude.{ℕ, ◌-◌, List, [], ◌∷◌, ◌++◌, length, take, drop, replicate, slice_index_or, slice_set}
 use Rattle.cells.specs.declared.cell.Cell.{Cell}
 use Rattle.cells.specs.declared.cell.Cell.TheVariants.{Reference, Atom}
+use Rattle.tables.specs.declared.usage.Usage.{Usage}
 
 -- a choice point: the saved registers, and how many cells and trail entries there were when it was opened
 pub record Choice : Type 0 where
@@ -18,6 +19,9 @@ pub record Tables : Type 0 where
 
 abbrev pub used : Tables → ℕ
 used t = length t.heap
+
+abbrev pub usage_of : Tables → Usage
+usage_of t = record { used = used t; entries = length t.trail; points = length t.choices }
 
 -- what a cell holds; a cell that is not in use counts as an unbound variable
 abbrev pub cell_at : Tables → ℕ → Cell

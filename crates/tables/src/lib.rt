@@ -3,6 +3,8 @@
 
 pub mod memory;
 pub mod stack;
+pub mod usage;
 
 pub use memory::{ChoicePoint, Memory};
 pub use stack::Stack;
+pub use usage::Usage;

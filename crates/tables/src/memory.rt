@@ -16,7 +16,8 @@ pub struct ChoicePoint {
     ghost eight: { length saved ≡ 8 },
 }
 
-// The tables of a store. They keep no rules beyond their lengths.
+// The tables of a store. They keep no rules beyond their lengths: a call breaks the table rules on its way, so what rests on
+// the rules requires `Stands` of the tables, and no type has it as an invariant. There is no `impl Model`, as at `Stack`.
 #[derive(Drop)]
 pub struct Memory {
     heap: Stack<u32, 4096>,

@@ -1,1 +1,2 @@
+pub mod AnyOf
 pub mod Named

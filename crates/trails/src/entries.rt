@@ -33,6 +33,7 @@ pub fn first_stray_entry<M: Marks>(memory: &Memory, named: &mut M) -> Option<usi
     ensures { result ≡ first_stray_entry (tables_of memory.now) }
 {
     named.clear();
+    // with `find` the proof does not close: the set grows from turn to turn
     for j in 0..memory.trailed() {
         let entry = memory.entry(j);
         if stray_entry(memory, entry, named) {

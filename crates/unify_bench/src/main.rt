@@ -27,7 +27,7 @@ fn nest(bench: &mut Bench, d: u64, levels: u64) {
     }
 }
 
-// Carries the request out in many rounds, each between open and retry, and prints its last answer.
+// Carries the request out in many rounds, each between open and last, and prints its last answer.
 fn report(rt: &HostRuntime, bench: &mut Bench, name: &str, request: Request) -> io::Result<()> {
     let start = Instant::now(rt)?;
     let mut reply = Reply::NoSlip;
@@ -55,7 +55,7 @@ fn run(rt: &HostRuntime, bench: &mut Bench) -> io::Result<()> {
     report(rt, bench, "unify", Request::Unify { s: 0, t: 1 })?;
     let _unified = bench.perform(Request::Unify { s: 0, t: 1 });
     report(rt, bench, "same, unified", Request::Same { s: 0, t: 1 })?;
-    // X2 is the variable at the bottom, and X3 one level more than X0: the occurs check finds it.
+    // X2 is a new variable, which is bound to X0. X1, which was unified with X0, gets one level more: the occurs check finds it.
     nest(bench, 2, 0);
     let _bound = bench.perform(Request::Unify { s: 2, t: 0 });
     wrap(bench, 1);

@@ -6,16 +6,14 @@ use Rattle.cells.specs.declared.cell.Cell.{Cell}
 use Rattle.cells.specs.declared.cell.Cell.TheVariants.{Reference}
 use Rattle.cells.specs.Cells.{in_range}
 use Rattle.tables.specs.Tables.{Tables, used}
-use Rattle.terms.specs.Terms.{occurs}
 use Rattle.marks.specs.Sets.{count_below}
 use Rattle.heaps.specs.Lists.{is_in}
 use Rattle.heaps.specs.Leads.{Heap, heap_of, unbound}
 use Rattle.heaps.specs.Binding.{trailed, bind}
 use Rattle.heaps.specs.SpellingLaws.{Bindable}
-use Rattle.heaps.specs.LevelLaws.{Stands, Keeps}
+use Rattle.heaps.specs.LevelLaws.{Stands}
 use Rattle.heaps.proofs.WordKinds.{false_of}
 use Rattle.heaps.proofs.CountLaws.{count_at_most, count_added}
-use Rattle.heaps.proofs.SpellLaws.{spell_unbound}
 use Rattle.heaps.proofs.BindLaws.{heap_bind, used_bind, keeps_bind, now_bound}
 use Rattle.heaps.proofs.BindRules.{rules_bind, fits_bind}
 use Rattle.calls.specs.Unifying.{go}
@@ -81,12 +79,6 @@ module _ (t : Tables) (cells : List ℕ) (x : ℕ) (w : Cell) (stands : Stands t
         longer = trail_longer;
         back = λ top low. unbind_bind t cells top x w ok.free low;
       }))
-
--- Two different variables may be bound to each other.
-pub variable_bindable : (t : Tables) (x y : ℕ) → Stands t → Keeps t (Reference x) → Keeps t (Reference y) → unbound (heap_of t.heap) x ≡ true
-    → unbound (heap_of t.heap) y ≡ true → y ≢ x → Bindable t x (Reference y)
-variable_bindable t x y stands kx ky fx fy ne =
-    record { in_use = kx.0.0; free = fx; keeps = ky.0; absent = ap (occurs x) (spell_unbound t stands.0 y fy) ∙ ne_eqb y x ne }
 
 -- What the meeting of two variables is, by their order.
 module _ (t : Tables) (x y : ℕ) where

@@ -1,19 +1,12 @@
 -- Taking the next two argument cells from a stack of rows.
-use Rattle.std.proofs.Common.{◌≡◌, ℕ, zero, suc, ◌+◌, ◌-◌, ◌<◌, ◌≤◌, List, [], ◌∷◌, length, sym, ap, ◌∙◌, subst, arith, length-take, Option, Some, None}
-use Rattle.tables.specs.Stacks.{listed}
-use Rattle.tables.proofs.Views.{length_turned}
+use Rattle.std.proofs.Common.{◌≡◌, ℕ, zero, suc, ◌+◌, ◌-◌, ◌<◌, List, [], ◌∷◌, length, sym, ap, ◌∙◌, subst, arith, Option, Some, None}
 use Rattle.calls.specs.Unifying.{Pair, rows}
-use Rattle.unifying.specs.Frames.{rows_of, pairs}
-use Rattle.unifying.specs.declared.frames.Frames.{Frames}
 use Rattle.unifying.specs.Walking.{Draws, none_left, row_done, row_first}
 
--- There are at most as many rows as the stack has places.
-pub frames_few : (f : Frames) → length (pairs f) ≤ 4096
-frames_few f = omega (arith, length_turned rows_of (listed f.stack), length-take f.stack.len f.stack.items, f.stack.whole, f.stack.fits)
-
-pub draws_none : (ps : List Pair) → length ps ≡ 0 → Draws ps None ps
-draws_none [] e = none_left
-draws_none (p ∷ ps) e = absurd (omega arith)
+pub draws_none : (ps qs : List Pair) → length ps ≡ 0 → length qs ≡ 0 → Draws ps None qs
+draws_none [] [] e f = none_left
+draws_none [] (q ∷ qs) e f = absurd (omega arith)
+draws_none (p ∷ ps) qs e f = absurd (omega arith)
 
 pub draws_done : (ps rest : List Pair) (i j k : ℕ) → ps ≡ rows i j k ∷ rest → k ≡ 0 → (o : Option (ℕ × ℕ)) (qs : List Pair) → Draws rest o qs → Draws ps o qs
 draws_done ps rest i j k popped z o qs d = subst (λ (l : List Pair). Draws l o qs) (sym (popped ∙ ap (λ n. rows i j n ∷ rest) z)) (row_done d)

@@ -1,13 +1,11 @@
 -- The ends of two words meet: by their kinds, where they are not both structures.
-use Rattle.std.proofs.Common.{◌≡◌, ℕ, Bool, true, false, cond, List, ◌∷◌, ℤ, pos, negsuc, sym, refl, ap, ◌∙◌, subst, inl, inr, None}
+use Rattle.std.proofs.Common.{◌≡◌, ℕ, Bool, true, false, cond, List, ◌∷◌, ℤ, pos, negsuc, sym, refl, ap, subst, inl, inr, None}
 use Rattle.std.proofs.lemmas.Bool.{both_ways, eq-eqb}
 use Rattle.cells.specs.declared.cell.Cell.{Cell}
 use Rattle.cells.specs.declared.cell.Cell.TheVariants.{Reference, Pointer, Functor, Atom, Integer}
 use Rattle.tables.specs.Tables.{Tables}
-use Rattle.terms.specs.Terms.{named, whole, occurs, same_int, same_label}
+use Rattle.terms.specs.Terms.{named, whole, same_int, same_label}
 use Rattle.terms.proofs.SameLaws.{same_label_true}
-use Rattle.heaps.specs.Spelling.{spell}
-use Rattle.heaps.specs.Binding.{bind}
 use Rattle.heaps.specs.LevelLaws.{Keeps}
 use Rattle.heaps.proofs.WordKinds.{false_of}
 use Rattle.calls.specs.Unifying.{Pair, rows, stop, go, bind_to, meet}
@@ -74,11 +72,3 @@ pub constants_met : (t : Tables) (a b : Cell) (r : Bool) → Keeps t a → Keeps
 constants_met t a b true k l oa ob apart same other =
     subst (λ (c : Cell). Met t t a c true) (same refl) (equal_met t a k oa (subst (λ (c : Cell). both_pointers a c ≡ false) (sym (same refl)) apart))
 constants_met t a b false k l oa ob apart same other = differ_met t a b k l oa ob apart (other refl)
-
--- the occurs check, then the binding
-pub bind_to_stops : (t u : Tables) (x : ℕ) (w : Cell) → true ≡ occurs x (spell t.heap w) → (ps : List Pair) → bind_to t x w ps ≡ cond false (go u ps) (stop None)
-bind_to_stops t u x w e ps = ap (λ (c : Bool). cond c (stop None) (go (bind t x w) ps)) (sym e)
-
-pub bind_to_goes : (t u : Tables) (x : ℕ) (w : Cell) → false ≡ occurs x (spell t.heap w) → u ≡ bind t x w → (ps : List Pair)
-    → bind_to t x w ps ≡ cond true (go u ps) (stop None)
-bind_to_goes t u x w e is ps = ap (λ (c : Bool). cond c (stop None) (go (bind t x w) ps)) (sym e) ∙ ap (λ (v : Tables). go v ps) (sym is)

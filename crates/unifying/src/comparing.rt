@@ -1,4 +1,4 @@
-ghost use Rattle.std.specs.Prelude.{◌≡◌, ◌≤◌, true, false, length, ◌≢◌};
+ghost use Rattle.std.specs.Prelude.{◌≡◌, ◌≤◌, length};
 ghost use Rattle.tables.specs.Views.{tables_of};
 ghost use Rattle.terms.specs.Terms.{same_tree};
 ghost use Rattle.heaps.specs.Spelling.{spell};
@@ -15,6 +15,7 @@ use reading::end_of;
 use tables::Memory;
 
 // Whether two words spell the same term. Classes and frames are work space: what they held is cleared.
+// No `Work`: comparing needs neither visits nor bindings.
 pub fn same(
     memory: &Memory,
     left: Cell,
@@ -32,6 +33,8 @@ pub fn same(
     if !compare(memory, left, right, classes, frames) {
         return false;
     }
+    // `walk` has this loop with another step: one function for both would take the step as a closure over a memory that one of
+    // them changes (not tried)
     while let Some((i, j)) = frames.next() {
         let a = Cell::Reference(i as u64);
         let b = Cell::Reference(j as u64);
@@ -43,6 +46,8 @@ pub fn same(
 }
 
 // Compares two words. The arguments of two structures that are not yet of one class join what is still to be compared.
+// `advance` unifies in the same steps: one function for both would take what is done with other ends as a closure over a memory
+// that one of them changes (not tried). `room` is broken between a merge and the push of its frame, so it is no invariant.
 fn compare(
     memory: &Memory,
     left: Cell,
@@ -60,14 +65,6 @@ fn compare(
     let b = end_of(memory, right);
     match structures(a, b) {
         Some((p, q)) => meet_structures(memory, p, q, classes, frames),
-        None => same_word(a, b),
+        None => a == b,
     }
-}
-
-// Whether two words are the same.
-pub(crate) fn same_word(a: Cell, b: Cell) -> bool
-    ensures same { result ≡ true → a ≡ b }
-    ensures other { result ≡ false → a ≢ b }
-{
-    a == b
 }

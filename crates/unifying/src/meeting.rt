@@ -1,5 +1,5 @@
 // The ends of two words meet, where they are not both structures.
-ghost use Rattle.std.specs.Prelude.{◌≡◌, true, false, List, [], if◌then◌else◌, None};
+ghost use Rattle.std.specs.Prelude.{◌≡◌, true, false, List, if◌then◌else◌, None};
 ghost use Rattle.cells.specs.Cells.{in_range};
 ghost use Rattle.cells.specs.declared.cell.Cell.TheVariants.{Reference};
 ghost use Rattle.tables.specs.Stacks.{listed};
@@ -11,15 +11,17 @@ ghost use Rattle.heaps.specs.LevelLaws.{Stands, Keeps};
 ghost use Rattle.calls.specs.Unifying.{Pair, stop, go, bind_to};
 ghost use Rattle.unifying.specs.Merging.{both_pointers};
 ghost use Rattle.unifying.specs.Bindings.{Noted, Stepped, EndsChain, Met};
-ghost use Rattle.occurring.specs.Visits.{visited};
+ghost use Rattle.unifying.specs.Works.{merges_in, pairs_in, bound_in};
 
-use super::comparing::same_word;
+use super::work::Work;
 use binding::bind;
 use cells::Cell;
-use occurring::{VisitTable, occurs};
+use occurring::occurs;
+use std::cmp::Ordering;
 use tables::{Memory, Stack};
 
 // Binds the unbound cell x to the word, and lists it.
+// `Noted` is of the bindings of one walk, so it is no invariant of the work space.
 fn note_binding(memory: &mut Memory, x: u64, word: Cell, bound: &mut Stack<u16, 4096>)
     requires stands { Stands (tables_of memory.old) }
     requires bindable { Bindable (tables_of memory.old) x word }
@@ -43,69 +45,56 @@ fn meet_variables(memory: &mut Memory, x: u64, y: u64, bound: &mut Stack<u16, 40
     ensures met { Met (tables_of memory.old) (tables_of memory.new) (Reference x) (Reference y) true }
     ensures stepped { Stepped (tables_of memory.old) (listed bound.old) (tables_of memory.new) (listed bound.new) }
 {
-    if x < y {
-        note_binding(memory, y, Cell::Reference(x), bound);
-    } else if y < x {
-        note_binding(memory, x, Cell::Reference(y), bound);
+    match x.cmp(&y) {
+        Ordering::Less => note_binding(memory, y, Cell::Reference(x), bound),
+        Ordering::Greater => note_binding(memory, x, Cell::Reference(y), bound),
+        Ordering::Equal => {}
     }
 }
 
 // A variable meets a word that is no variable: it is bound, unless it occurs in what the word spells.
-fn bind_to(
-    memory: &mut Memory,
-    x: u64,
-    word: Cell,
-    visits: &mut VisitTable,
-    bound: &mut Stack<u16, 4096>,
-) -> bool
+fn bind_to(memory: &mut Memory, x: u64, word: Cell, work: &mut Work) -> bool
     requires stands { Stands (tables_of memory.old) }
     requires variable { Keeps (tables_of memory.old) (Reference x) }
     requires free { unbound (heap_of (tables_of memory.old).heap) x ≡ true }
     requires keeps { Keeps (tables_of memory.old) word }
-    requires empty { visited visits.old ≡ [] }
-    requires noted { Noted (tables_of memory.old) (listed bound.old) }
+    requires noted { Noted (tables_of memory.old) (bound_in work.old) }
     ensures next { (ps : List Pair) → bind_to (tables_of memory.old) x word ps ≡ (if result then go (tables_of memory.new) ps else stop None) }
-    ensures stepped { Stepped (tables_of memory.old) (listed bound.old) (tables_of memory.new) (listed bound.new) }
-    ensures empty { visited visits.new ≡ [] }
+    ensures stepped { Stepped (tables_of memory.old) (bound_in work.old) (tables_of memory.new) (bound_in work.new) }
+    ensures kept { (merges_in work.new ≡ merges_in work.old) × (pairs_in work.new ≡ pairs_in work.old) }
 {
-    if occurs(memory, x, word, visits) {
+    if occurs(memory, x, word, &mut work.visits) {
         return false;
     }
-    note_binding(memory, x, word, bound);
+    note_binding(memory, x, word, &mut work.bound);
     true
 }
 
 // The ends of two words, which are not both structures.
-pub(crate) fn meet_ends(
-    memory: &mut Memory,
-    a: Cell,
-    b: Cell,
-    visits: &mut VisitTable,
-    bound: &mut Stack<u16, 4096>,
-) -> bool
+pub(crate) fn meet_ends(memory: &mut Memory, a: Cell, b: Cell, work: &mut Work) -> bool
     requires stands { Stands (tables_of memory.old) }
     requires left { Keeps (tables_of memory.old) a }
     requires right { Keeps (tables_of memory.old) b }
     requires left_end { EndsChain (tables_of memory.old) a }
     requires right_end { EndsChain (tables_of memory.old) b }
     requires apart { both_pointers a b ≡ false }
-    requires empty { visited visits.old ≡ [] }
-    requires noted { Noted (tables_of memory.old) (listed bound.old) }
+    requires noted { Noted (tables_of memory.old) (bound_in work.old) }
     ensures met { Met (tables_of memory.old) (tables_of memory.new) a b result }
-    ensures stepped { Stepped (tables_of memory.old) (listed bound.old) (tables_of memory.new) (listed bound.new) }
-    ensures empty { visited visits.new ≡ [] }
+    ensures stepped { Stepped (tables_of memory.old) (bound_in work.old) (tables_of memory.new) (bound_in work.new) }
+    ensures kept { (merges_in work.new ≡ merges_in work.old) × (pairs_in work.new ≡ pairs_in work.old) }
 {
+    // no match on the pair: in its arm (Reference(x), _) no fact says that b is not a reference
     match a {
         Cell::Reference(x) => match b {
             Cell::Reference(y) => {
-                meet_variables(memory, x, y, bound);
+                meet_variables(memory, x, y, &mut work.bound);
                 true
             }
-            _ => bind_to(memory, x, b, visits, bound),
+            _ => bind_to(memory, x, b, work),
         },
         _ => match b {
-            Cell::Reference(y) => bind_to(memory, y, a, visits, bound),
-            _ => same_word(a, b),
+            Cell::Reference(y) => bind_to(memory, y, a, work),
+            _ => a == b,
         },
     }
 }

@@ -8,7 +8,6 @@ ghost use Rattle.unifying.specs.Walking.{StructuresMet};
 ghost use Rattle.classes.specs.Classes.{merges};
 ghost use Rattle.unifying.specs.Frames.{pairs};
 
-use super::comparing::same_word;
 use super::frames::{Frame, Frames};
 use cells::Cell;
 use classes::Classes;
@@ -16,7 +15,8 @@ use reading::arity_of;
 use tables::Memory;
 
 // Functor cells name the structures. If they have the same functor and are not yet of one class, they are merged and their
-// arguments are to be gone through; the answer is no if the functors differ.
+// arguments are to be gone through; the answer is no if the functors differ. Classes and frames are lent apart, as to `same`.
+// `room` is broken between a merge and the push of its frame, so it is no invariant.
 pub(crate) fn meet_structures(
     memory: &Memory,
     p: u64,
@@ -34,7 +34,7 @@ pub(crate) fn meet_structures(
         return true;
     }
     let functor = memory.cell(p as usize);
-    if !same_word(functor, memory.cell(q as usize)) {
+    if functor != memory.cell(q as usize) {
         return false;
     }
     classes.merge(p as usize, q as usize);
@@ -50,11 +50,8 @@ pub(crate) fn meet_structures(
 pub(crate) fn structures(a: Cell, b: Cell) -> Option<(u64, u64)>
     ensures { BothStructures a b result }
 {
-    match a {
-        Cell::Pointer(p) => match b {
-            Cell::Pointer(q) => Some((p, q)),
-            _ => None,
-        },
+    match (a, b) {
+        (Cell::Pointer(p), Cell::Pointer(q)) => Some((p, q)),
         _ => None,
     }
 }

@@ -59,6 +59,7 @@ fn walk(memory: &mut Memory, left: Cell, right: Cell, work: &mut Work) -> bool
 }
 
 // Unifies the ends of two words. The arguments of two structures that are not yet of one class join what is still to be done.
+// `room` is broken between a merge and the push of its frame, so it is no invariant.
 fn advance(memory: &mut Memory, left: Cell, right: Cell, work: &mut Work) -> bool
     requires stands { Stands (tables_of memory.old) }
     requires left { Keeps (tables_of memory.old) left }
@@ -72,6 +73,6 @@ fn advance(memory: &mut Memory, left: Cell, right: Cell, work: &mut Work) -> boo
     let b = end_of(memory, right);
     match structures(a, b) {
         Some((p, q)) => meet_structures(memory, p, q, &mut work.classes, &mut work.frames),
-        None => meet_ends(memory, a, b, &mut work.visits, &mut work.bound),
+        None => meet_ends(memory, a, b, work),
     }
 }

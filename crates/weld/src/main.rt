@@ -52,14 +52,13 @@ fn try_labels(rt: &HostRuntime, memory: &mut Memory) -> io::Result<()> {
     Ok(())
 }
 
-// Prints what the tables hold.
+// Prints what the tables hold. Cells are read by number, since a memory keeps words and lends no slice of cells.
 fn read_back(rt: &HostRuntime, memory: &Memory) -> io::Result<()> {
     for i in 0..memory.used() {
         let cell = memory.cell(i);
         println!(rt; "heap {i}: {cell:?}")?;
     }
-    for r in 0..8 {
-        let cell = memory.register(r);
+    for (r, cell) in memory.registers().iter().enumerate() {
         println!(rt; "X{r}: {cell:?}")?;
     }
     Ok(())

@@ -6,14 +6,23 @@ ghost use Rattle.tables.specs.Views.{tables_of};
 use cells::{Cell, Refusal};
 use tables::Memory;
 
+// Refuses a cell that is out of range. Its range is asked of in_range: encode would refuse the same cells, but the word that
+// it makes has no use here.
+fn ranged(cell: Cell) -> Result<(), Refusal>
+    ensures { is_ok result ≡ in_range cell }
+{
+    if !cell.in_range() {
+        return Err(Refusal::OutOfRange);
+    }
+    Ok(())
+}
+
 // Takes one more cell and answers its number.
 pub fn push(memory: &mut Memory, cell: Cell) -> Result<usize, Refusal>
     ensures after { tables_of memory.new ≡ (if is_ok result then push_cell (tables_of memory.old) cell else tables_of memory.old) }
     ensures test { is_ok result ≡ in_range cell && nat_lt (used (tables_of memory.old)) 4096 }
 {
-    if !cell.in_range() {
-        return Err(Refusal::OutOfRange);
-    }
+    ranged(cell)?;
     let used = memory.used();
     if used >= 4096 {
         return Err(Refusal::NoCells);
@@ -30,9 +39,7 @@ pub fn set(memory: &mut Memory, r: usize, cell: Cell) -> Result<(), Refusal>
     if r >= 8 {
         return Err(Refusal::NoRegister);
     }
-    if !cell.in_range() {
-        return Err(Refusal::OutOfRange);
-    }
+    ranged(cell)?;
     memory.set_register(r, cell);
     Ok(())
 }
@@ -42,9 +49,7 @@ pub fn write(memory: &mut Memory, i: usize, cell: Cell) -> Result<(), Refusal>
     ensures after { tables_of memory.new ≡ (if is_ok result then set_cell (tables_of memory.old) i cell else tables_of memory.old) }
     ensures test { is_ok result ≡ in_range cell && nat_lt i (used (tables_of memory.old)) }
 {
-    if !cell.in_range() {
-        return Err(Refusal::OutOfRange);
-    }
+    ranged(cell)?;
     if i >= memory.used() {
         return Err(Refusal::NoCells);
     }

@@ -1,1 +1,3 @@
 mod SlipLaws
+mod LevelLaws
+mod BackLaws

@@ -1,5 +1,5 @@
 -- The slip that start hands out is that of the half-made structure, and void takes the slip of the half-made structure always.
-use Rattle.std.proofs.Common.{◌≡◌, ℕ, ◌+◌, ◌≤◌, Bool, true, false, cond, not, ◌∷◌, ◌++◌, get_or, replicate, sym, refl, ap, ◌∙◌, ap₂, add-zero, arith, Option, Some, None}
+use Rattle.std.proofs.Common.{◌≡◌, ℕ, ◌+◌, ◌≤◌, Bool, true, false, cond, not, ◌∷◌, ◌++◌, get_or, replicate, Ok, Err, Result, sym, refl, ap, ◌∙◌, ap₂, add-zero, arith, Option, Some, None}
 use Rattle.std.proofs.lemmas.List.{get_or-append-add}
 use Rattle.std.proofs.lemmas.Bool.{and_from, eq-eqb, le-ltb}
 use Rattle.cells.specs.declared.cell.Cell.{Cell}
@@ -21,10 +21,11 @@ use Rattle.calls.proofs.KeepSteps.{Accepted, half_none, some_stands}
 use Rattle.store.specs.declared.store.Slip.{Slip}
 use Rattle.store.specs.declared.store.Store.{Store}
 use Rattle.refusing.specs.Refused.{or_full, refusal_for}
-use Rattle.store.specs.Called.{state, called}
+use Rattle.store.specs.Called.{state, called, told, hands}
 use Rattle.store.proofs.Accepting.{accepted, step_accepted, step_refused}
 use Rattle.store.proofs.Keeping.{whole}
-use Rattle.weld_task.specs.Slips.{Held}
+use Rattle.weld_task.specs.Slips.{Held, Begun}
+use Rattle.weld_task.proofs.BackLaws.{same_state}
 
 -- A call that hands out a slip was accepted.
 handed : (c : Call) (left : Tables) (s u : State) (d : Draft) → (Hands d, u) ≡ step c left s → Accepted c s × ((Hands d, u) ≡ act c left s)
@@ -36,7 +37,7 @@ handed c left s u d e = by (refusal_for c s) refl
         absurd (let z : ◌≡◌ {A = ℕ} 0 1 = cc in omega arith)
     by None p = (accepted c s (sym p), e ∙ step_accepted c left s p)
 
-pub start_held : (name arity : ℕ) (left : Tables) (s u : State) (d : Draft) → (Hands d, u) ≡ step (Start name arity) left s → (draft u ≡ Some d) × (s.half ≡ None)
+start_held : (name arity : ℕ) (left : Tables) (s u : State) (d : Draft) → (Hands d, u) ≡ step (Start name arity) left s → (draft u ≡ Some d) × (s.half ≡ None)
 start_held name arity left s u d e =
     let h = handed (Start name arity) left s u d e in
     let t = s.tables in
@@ -50,6 +51,11 @@ start_held name arity left s u d e =
       ap (λ (x : Answer × State). draft x.1) h.1 ∙ ap drawn functor ∙ ap (λ (x : Draft). Some x) (sym same),
       half_none s h.0.0.0,
     )
+
+-- the slip that is handed out is that of the structure that was begun
+pub begun : (name arity : ℕ) (s t : Store) (r : Result Slip Refusal) → (told hands r, state t) ≡ called (Start name arity) s → Begun s t r
+begun name arity s t (Ok slip) e = start_held name arity (tables_of s.memory) (state s) (state t) slip.draft e
+begun name arity s t (Err why) e = ap (λ (x : State). x.half) (same_state (Start name arity) s t why e)
 
 same_draft_lem : (d : Draft) → same_draft d d ≡ true
 same_draft_lem d = and_from _ _ (eq-eqb d.name d.name refl) (and_from _ _ (eq-eqb d.arity d.arity refl) (eq-eqb d.missing d.missing refl))

@@ -13,11 +13,6 @@ half_in s = (state s).half
 abbrev pub Held : Store → Slip → Type 0
 Held s slip = draft (state s) ≡ Some slip.draft
 
--- a slip that is handed on, or handed back with a refusal
-abbrev pub HeldBy : Store → Result Slip (Refusal × Slip) → Type 0
-HeldBy s (Ok slip) = Held s slip
-HeldBy s (Err e) = Held s e.1
-
 -- A structure was begun, which none can be while another is half made; or start was refused.
 abbrev pub Begun : Store → Store → Result Slip Refusal → Type 0
 Begun s t (Ok slip) = Held t slip × (half_in s ≡ None)
@@ -27,3 +22,8 @@ Begun s t (Err why) = half_in t ≡ half_in s
 abbrev pub Filled : Store → Result Slip Refusal → Type 0
 Filled t (Ok slip) = Held t slip
 Filled t (Err why) = half_in t ≡ None
+
+-- A call that spends a slip went well, and its value is handed on; or the structure was given up.
+abbrev pub Settled : {T : Type 0} → Store → Result T (Refusal × Slip) → Store → Result T Refusal → Type 0
+Settled s (Ok a) t r = (r ≡ Ok a) × (state t ≡ state s)
+Settled s (Err e) t r = (r ≡ Err e.0) × (half_in t ≡ None)

@@ -2,19 +2,23 @@
 // geometry, by rules that are tried on a store. The echoes come from standard input; where that is empty, an example is taken.
 #![tactic(auto)]
 
+ghost use Rattle.std.specs.Prelude.{◌≡◌, None};
+ghost use Rattle.tables.specs.Tables.{set_up};
+ghost use Rattle.store.specs.Called.{state};
+
 use calls::{Answer, Call};
 use classifying::{Echo, Label, RULES, echo_in, verdict};
 use std::io;
 use std::io::{BufRead, BufReader};
-use store::Store;
 
+mod machine;
 mod making;
 mod step;
 mod task;
 mod trace;
 
-use task::explain;
-use trace::Trace;
+use machine::Machine;
+use step::Step;
 
 // The echoes that are classified where none are given: one for each rule, and one that no rule explains.
 const EXAMPLE: [Echo; 6] = [
@@ -51,7 +55,7 @@ const EXAMPLE: [Echo; 6] = [
 ];
 
 // How many echoes were taken for what.
-#[derive(Clone, Copy)]
+#[derive(Clone, Copy, Default)]
 struct Tally {
     root: u64,
     flaw: u64,
@@ -68,36 +72,32 @@ impl Tally {
     }
 }
 
-// The store that the rules are tried on, what is printed, and the tally.
+// The store that the rules are tried on, which is empty between echoes, what is printed, and the tally.
 #[derive(Drop)]
 struct Inspection<'a> {
-    trace: Trace<'a>,
-    store: Store,
+    machine: Machine<'a>,
     tally: Tally,
+    ghost empty: { state machine.store ≡ record { tables = set_up; half = None } },
 }
 
 impl<'a> Inspection<'a> {
     fn new(rt: &'a HostRuntime) -> Inspection<'a> {
-        let tally = Tally {
-            root: 0,
-            flaw: 0,
-            geometry: 0,
-        };
         Inspection {
-            trace: Trace::new(rt),
-            store: Store::new(),
-            tally,
+            machine: Machine::new(rt),
+            tally: Tally::default(),
         }
     }
 
     // Takes the echo of a line. Blank lines and comments are passed over.
     fn read(&mut self, number: u64, line: &[u8]) {
         match line {
-            [] => {}
-            [b'#', ..] => {}
+            [] | [b'#', ..] => {}
             _ => match echo_in(line) {
                 Some(echo) => self.classify(echo),
-                None => self.trace.say(format_args!("line {number}: no echo")),
+                None => self
+                    .machine
+                    .trace
+                    .say(format_args!("line {number}: no echo")),
             },
         }
     }
@@ -106,38 +106,36 @@ impl<'a> Inspection<'a> {
     fn classify(&mut self, echo: Echo) {
         let (offset, depth, amplitude) = (echo.offset, echo.depth, echo.amplitude);
         let (zone, strength) = (echo.zone(), echo.strength());
-        self.trace.say(format_args!(
+        self.machine.trace.say(format_args!(
             "echo: offset {offset}, depth {depth}, amplitude {amplitude}: {zone}, {strength}",
         ));
-        let label = match explain(&mut self.trace, &mut self.store, &RULES, zone, strength) {
+        let label = match self.machine.explain(&RULES, zone, strength) {
             Ok(found) => {
                 let label = found.unwrap_or(Label::Flaw);
-                if label.atom() != verdict(zone, strength).atom() {
-                    self.trace.say("  MISMATCH");
+                if label != verdict(zone, strength) {
+                    self.machine.trace.say("  MISMATCH");
                 }
                 label
             }
             Err(why) => {
-                self.trace.say(format_args!("  refused: {why:?}"));
+                self.machine.trace.say(format_args!("  refused: {why:?}"));
                 Label::Flaw
             }
         };
-        self.trace.say(format_args!("  verdict: {label}"));
+        self.machine.trace.say(format_args!("  verdict: {label}"));
         self.tally.count(label);
     }
 
     // Prints the tally and how much of the store is in use.
     fn finish(mut self) -> io::Result<()> {
         let (root, flaw, geometry) = (self.tally.root, self.tally.flaw, self.tally.geometry);
-        self.trace.say(format_args!("verdicts: {root} root, {flaw} flaw, {geometry} geometry"));
-        let usage = self.store.usage();
-        let answer = Answer::Counts {
-            used: usage.used,
-            entries: usage.entries,
-            points: usage.points,
-        };
-        self.trace.step(Call::Usage, answer);
-        self.trace.finish()
+        self.machine.trace.say(format_args!(
+            "verdicts: {root} root, {flaw} flaw, {geometry} geometry"
+        ));
+        let call = Call::Usage;
+        let answer = Answer::from(self.machine.store.usage());
+        self.machine.trace.say(Step { call, answer });
+        self.machine.trace.finish()
     }
 }
 
@@ -145,16 +143,14 @@ impl<'a> Inspection<'a> {
 fn read_all(rt: &HostRuntime, inspection: &mut Inspection) -> io::Result<bool> {
     let mut input = BufReader::new(rt.alloc(), rt.stdin())?;
     let mut line = Vec::new(rt.alloc());
+    // One buffer for all lines; the bound ends the loop for the proof.
     for number in 1..u64::MAX {
         line.clear();
         if input.read_until(b'\n', &mut line)? == 0 {
             return Ok(number > 1);
         }
-        let text = match line.as_slice() {
-            [text @ .., b'\n'] => text,
-            text => text,
-        };
-        inspection.read(number, text);
+        let text = line.as_slice();
+        inspection.read(number, text.strip_suffix(b"\n").unwrap_or(text));
     }
     Ok(true)
 }

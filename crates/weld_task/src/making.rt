@@ -1,124 +1,114 @@
 // Structures made on a store: every slip that is handed out is spent, by done or by void.
-ghost use Rattle.std.specs.Prelude.{◌≡◌, None};
-ghost use Rattle.weld_task.specs.Slips.{half_in, Held, HeldBy, Begun, Filled};
+ghost use Rattle.std.specs.Prelude.{◌≡◌, IfErr, None};
+ghost use Rattle.weld_task.specs.Slips.{half_in, Held, Begun, Filled, Settled};
+ghost use Rattle.weld_task.specs.Levels.{levels, base};
 
-use super::trace::Trace;
+use super::machine::Machine;
+use super::step::Step;
 use calls::{Answer, Call};
 use cells::Refusal;
-use store::{Slip, Store};
+use store::Slip;
 
-// An argument of a structure: the word in a register, or a new variable.
+// An argument of a structure: the word in a register, or a new variable. It is no Option, since a variable is an argument as
+// much as a register is.
 #[derive(Clone, Copy)]
-pub enum Part {
+pub(crate) enum Part {
     Register(u64),
     Variable,
 }
 
-// Makes a structure of three arguments and points Xd at it. Where a call is refused, the structure is given up.
-pub(crate) fn make(
-    trace: &mut Trace,
-    store: &mut Store,
-    name: u64,
-    parts: [Part; 3],
-    d: u64,
-) -> Result<(), Refusal>
-    ensures { half_in store.new ≡ half_in store.old }
-{
-    let [first, second, third] = parts;
-    let slip = begin(trace, store, name, 3)?;
-    let slip = fill(trace, store, slip, first)?;
-    let slip = fill(trace, store, slip, second)?;
-    let slip = fill(trace, store, slip, third)?;
-    finish(trace, store, slip, d)
-}
-
-fn begin(trace: &mut Trace, store: &mut Store, name: u64, arity: u64) -> Result<Slip, Refusal>
-    ensures { Begun store.old store.new result }
-{
-    let call = Call::Start { name, arity };
-    match store.start(name, arity) {
-        Ok(slip) => {
-            trace.step(call, Answer::Hands(slip.draft()));
-            Ok(slip)
+impl Machine<'_> {
+    // Makes a structure of three arguments and points Xd at it. Where a call is refused, the structure is given up.
+    pub(crate) fn make(&mut self, name: u64, parts: [Part; 3], d: u64) -> Result<(), Refusal>
+        ensures { base self.new.store ≡ base self.old.store }
+    {
+        let mut slip = self.begin(name, 3)?;
+        for part in parts {
+            slip = self.fill(slip, part)?;
         }
-        Err(why) => {
-            trace.step(call, Answer::Refused(why));
-            Err(why)
+        self.finish(slip, d)
+    }
+
+    fn begin(&mut self, name: u64, arity: u64) -> Result<Slip, Refusal>
+        ensures begun { Begun self.old.store self.new.store result }
+        ensures levels { levels self.new.store ≡ levels self.old.store }
+    {
+        // A slip is no copy, so the answer is read off before the slip is handed on.
+        let result = self.store.start(name, arity);
+        let answer = match &result {
+            Ok(slip) => Answer::Hands(slip.draft()),
+            Err(why) => Answer::Refused(*why),
+        };
+        let call = Call::Start { name, arity };
+        self.trace.say(Step { call, answer });
+        result
+    }
+
+    // Writes the next argument. The slip is on its way, here and below: a machine holds none between calls.
+    fn fill(&mut self, slip: Slip, part: Part) -> Result<Slip, Refusal>
+        requires { Held self.old.store slip }
+        ensures filled { Filled self.new.store result }
+        ensures levels { levels self.new.store ≡ levels self.old.store }
+    {
+        let draft = slip.draft();
+        let (call, result) = match part {
+            Part::Register(s) => (Call::Put { slip: draft, s }, self.store.put(slip, s)),
+            Part::Variable => (Call::Hole { slip: draft }, self.store.hole(slip)),
+        };
+        self.settle(call, result, |slip| Answer::Hands(slip.draft()))
+    }
+
+    // Points Xd at the structure.
+    fn finish(&mut self, slip: Slip, d: u64) -> Result<(), Refusal>
+        requires { Held self.old.store slip }
+        ensures half { half_in self.new.store ≡ None }
+        ensures levels { levels self.new.store ≡ levels self.old.store }
+    {
+        let draft = slip.draft();
+        let result = self.store.done(slip, d);
+        self.settle(Call::Done { slip: draft, d }, result, |_| Answer::Nothing)
+    }
+
+    // Prints the answer of a call that spends a slip, and gives the structure up where it is a refusal.
+    fn settle<T, A: FnOnce(&T) -> Answer>(
+        &mut self,
+        call: Call,
+        res: Result<T, (Refusal, Slip)>,
+        told: A,
+    ) -> Result<T, Refusal>
+        requires held { IfErr res (λ e. Held self.old.store e.1) }
+        requires told { A.IsAlwaysCallable told }
+        ensures settled { Settled self.old.store res self.new.store result }
+        ensures levels { levels self.new.store ≡ levels self.old.store }
+    {
+        match res {
+            Ok(value) => {
+                let answer = told(&value);
+                self.trace.say(Step { call, answer });
+                Ok(value)
+            }
+            Err((why, slip)) => {
+                let answer = Answer::Refused(why);
+                self.trace.say(Step { call, answer });
+                self.give_up(slip);
+                Err(why)
+            }
         }
     }
-}
 
-// Writes the next argument.
-fn fill(trace: &mut Trace, store: &mut Store, slip: Slip, part: Part) -> Result<Slip, Refusal>
-    requires { Held store.old slip }
-    ensures { Filled store.new result }
-{
-    let draft = slip.draft();
-    match part {
-        Part::Register(s) => {
-            let result = store.put(slip, s);
-            settle(trace, store, Call::Put { slip: draft, s }, result)
+    // Gives the cells of the half-made structure back.
+    fn give_up(&mut self, slip: Slip)
+        requires { Held self.old.store slip }
+        ensures half { half_in self.new.store ≡ None }
+        ensures levels { levels self.new.store ≡ levels self.old.store }
+    {
+        let call = Call::Void { slip: slip.draft() };
+        match self.store.void(slip) {
+            Ok(()) => self.trace.say(Step {
+                call,
+                answer: Answer::Nothing,
+            }),
+            Err(_) => unreachable(),
         }
-        Part::Variable => {
-            let result = store.hole(slip);
-            settle(trace, store, Call::Hole { slip: draft }, result)
-        }
-    }
-}
-
-// Prints the answer of put or hole, and gives the structure up where it is a refusal.
-fn settle(
-    trace: &mut Trace,
-    store: &mut Store,
-    call: Call,
-    res: Result<Slip, (Refusal, Slip)>,
-) -> Result<Slip, Refusal>
-    requires { HeldBy store.old res }
-    ensures { Filled store.new result }
-{
-    match res {
-        Ok(slip) => {
-            trace.step(call, Answer::Hands(slip.draft()));
-            Ok(slip)
-        }
-        Err((why, slip)) => {
-            trace.step(call, Answer::Refused(why));
-            give_up(trace, store, slip);
-            Err(why)
-        }
-    }
-}
-
-// Points Xd at the structure.
-fn finish(trace: &mut Trace, store: &mut Store, slip: Slip, d: u64) -> Result<(), Refusal>
-    requires { Held store.old slip }
-    ensures { half_in store.new ≡ None }
-{
-    let call = Call::Done {
-        slip: slip.draft(),
-        d,
-    };
-    match store.done(slip, d) {
-        Ok(()) => {
-            trace.step(call, Answer::Nothing);
-            Ok(())
-        }
-        Err((why, slip)) => {
-            trace.step(call, Answer::Refused(why));
-            give_up(trace, store, slip);
-            Err(why)
-        }
-    }
-}
-
-// Gives the cells of the half-made structure back.
-fn give_up(trace: &mut Trace, store: &mut Store, slip: Slip)
-    requires { Held store.old slip }
-    ensures { half_in store.new ≡ None }
-{
-    let call = Call::Void { slip: slip.draft() };
-    match store.void(slip) {
-        Ok(()) => trace.step(call, Answer::Nothing),
-        Err(_) => unreachable(),
     }
 }

@@ -10,24 +10,13 @@ use super::kinds::is_functor;
 use cells::Cell;
 use tables::Memory;
 
-// Whether cell j can be no argument: it is not in use, or holds a functor.
-fn no_argument(memory: &Memory, j: usize) -> bool
-    ensures { result ≡ (nat_le (used (tables_of memory.now)) j || is_functor (heap_of (tables_of memory.now).heap j)) }
-{
-    memory.used() <= j || is_functor(memory.cell(j))
-}
-
-// Whether one of the cells after cell i, as many as the arity says, can be no argument.
+// Whether one of the cells after cell i, as many as the arity says, is not in use or holds a functor.
 fn any_lacking(memory: &Memory, i: usize, arity: u64) -> bool
     requires { i < used (tables_of memory.now) }
     ensures { result ≡ any_from (suc i) arity (λ j. nat_le (used (tables_of memory.now)) j || is_functor (heap_of (tables_of memory.now).heap j)) }
 {
-    for k in 0..arity {
-        if no_argument(memory, i + 1 + k as usize) {
-            return true;
-        }
-    }
-    false
+    let others = (memory.used() - i - 1) as u64;
+    others < arity || (i + 1..i + 1 + arity as usize).any(|j| is_functor(memory.cell(j)))
 }
 
 // Whether the word in cell i is a functor that lacks an argument.

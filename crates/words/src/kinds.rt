@@ -7,8 +7,5 @@ use cells::Cell;
 pub fn is_functor(word: Cell) -> bool
     ensures { result ≡ is_functor word }
 {
-    match word {
-        Cell::Functor { name: _, arity: _ } => true,
-        _ => false,
-    }
+    matches!(word, Cell::Functor { .. })
 }

@@ -1,4 +1,4 @@
-// Words that lead wrong.
+// Words that lead wrong. References and pointers have a function each, since each has its own rule.
 ghost use Rattle.std.specs.Prelude.{◌≡◌};
 ghost use Rattle.tables.specs.Tables.{used};
 ghost use Rattle.tables.specs.Views.{tables_of};

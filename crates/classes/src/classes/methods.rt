@@ -1,10 +1,10 @@
-ghost use Rattle.std.specs.Prelude.{◌≡◌, ℕ, ◌+◌, ◌<◌, false, [], ◌∷◌, length, slice_set};
+ghost use Rattle.std.specs.Prelude.{◌≡◌, ℕ, ◌+◌, ◌<◌, false, [], ◌∷◌, length};
 ghost use Rattle.classes.specs.Merges.{same_class, Joined};
-ghost use Rattle.classes.specs.Links.{merges_of, merge_of, at, Untouched, Linked, OnWay};
+ghost use Rattle.classes.specs.Links.{merges_of, merge_of, link_at, rank_at, put, Untouched, Linked, OnWay};
 ghost use Rattle.classes.specs.Classes.{merges};
 
 use super::super::merged::Merged;
-use super::Classes;
+use super::{Classes, Node};
 use tables::Stack;
 
 impl Classes {
@@ -13,8 +13,7 @@ impl Classes {
         ensures { merges result ≡ [] }
     {
         Classes {
-            links: [0; 4096],
-            ranks: [0; 4096],
+            nodes: [Node { link: 0, rank: 0 }; 4096],
             merged: Stack::new(Merged { left: 0, right: 0 }),
         }
     }
@@ -23,11 +22,11 @@ impl Classes {
     fn root(&self, p: usize) -> usize
         requires { p < 4096 }
         ensures class { OnWay (merges self.now) p result }
-        ensures root { at self.now.links result ≡ 0 }
+        ensures root { link_at self.now.nodes result ≡ 0 }
     {
         let mut at = p;
-        while self.links[at] != 0 {
-            at = self.links[at] as usize - 1;
+        while self.nodes[at].link != 0 {
+            at = self.nodes[at].link as usize - 1;
         }
         at
     }
@@ -49,8 +48,8 @@ impl Classes {
     {
         let a = self.root(p);
         let b = self.root(q);
-        let under = self.ranks[a];
-        let over = self.ranks[b];
+        let under = self.nodes[a].rank;
+        let over = self.nodes[b].rank;
         let merged = Merged {
             left: p as u16,
             right: q as u16,
@@ -69,11 +68,11 @@ impl Classes {
         requires below { c < 4096 }
         requires above { d < 4096 }
         requires room { length (merges self.old) < 4096 }
-        requires linked { Linked (merge_of merge ∷ merges self.old) (at (slice_set self.old.links c (d + 1))) (at (slice_set self.old.ranks d rank)) }
+        requires linked { Linked (merge_of merge ∷ merges self.old) (put (link_at self.old.nodes) c (d + 1)) (put (rank_at self.old.nodes) d rank) }
         ensures { merges self.new ≡ merge_of merge ∷ merges self.old }
     {
-        self.links[c] = d as u16 + 1;
-        self.ranks[d] = rank;
+        self.nodes[c].link = d as u16 + 1;
+        self.nodes[d].rank = rank;
         self.merged.push(merge);
     }
 
@@ -81,24 +80,22 @@ impl Classes {
     pub fn clear(&mut self)
         ensures { merges self.new ≡ [] }
     {
-        blank(&mut self.links, &mut self.ranks, &mut self.merged);
+        blank(&mut self.nodes, &mut self.merged);
     }
 }
 
-// Takes back the merges, the newest first.
-fn blank(links: &mut [u16; 4096], ranks: &mut [u16; 4096], merged: &mut Stack<Merged, 4096>)
+// Takes back the merges, the newest first. This has the two fields alone: they belong together again only at the end.
+fn blank(nodes: &mut [Node; 4096], merged: &mut Stack<Merged, 4096>)
     requires joined { Joined 4096 (merges_of merged.old) }
-    requires untouched { Untouched (merges_of merged.old) (at links.old) (at ranks.old) }
+    requires untouched { Untouched (merges_of merged.old) (link_at nodes.old) (rank_at nodes.old) }
     ensures empty { merges_of merged.new ≡ [] }
-    ensures links { (x : ℕ) → at links.new x ≡ 0 }
-    ensures ranks { (x : ℕ) → at ranks.new x ≡ 0 }
-    ensures whole { (length links.new ≡ 4096) × (length ranks.new ≡ 4096) }
+    ensures links { (x : ℕ) → link_at nodes.new x ≡ 0 }
+    ensures ranks { (x : ℕ) → rank_at nodes.new x ≡ 0 }
+    ensures whole { length nodes.new ≡ 4096 }
 {
-    while merged.len() > 0 {
-        let m = merged.pop();
-        links[m.left as usize] = 0;
-        ranks[m.left as usize] = 0;
-        links[m.right as usize] = 0;
-        ranks[m.right as usize] = 0;
+    let root = Node { link: 0, rank: 0 };
+    while let Some(m) = merged.pop() {
+        nodes[m.left as usize] = root;
+        nodes[m.right as usize] = root;
     }
 }

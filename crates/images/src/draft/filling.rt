@@ -8,7 +8,7 @@ use cells::Cell;
 use lines::{Item, Line, LineFault};
 use tables::Memory;
 
-// Each of these puts what the next line of its part says at its place.
+// Each of these puts what the next line of its part says at its place; written into the arms of `put` they are no plainer.
 impl Draft {
     fn put_cell(&mut self, i: u64, cell: Cell)
         requires { Next self.old (item.Heap i cell) }
@@ -38,14 +38,13 @@ impl Draft {
     {
         self.memory.push_choice();
         self.memory.set_tops(0, n as usize, 0);
-        self.heap_tops += 1;
     }
 
     fn put_trail_top(&mut self, i: u64, n: u64)
         requires { Next self.old (item.TrailTop i n) }
         ensures { Adds self.old self.new (item.TrailTop i n) }
     {
-        let k = (self.heap_tops - 1 - i) as usize;
+        let k = (self.heap_tops() - 1 - i) as usize;
         let heap_top = self.memory.heap_top(k);
         self.memory.set_tops(k, heap_top, n as usize);
         self.trail_tops += 1;
@@ -55,7 +54,7 @@ impl Draft {
         requires { Next self.old (item.Saved i cell) }
         ensures { Adds self.old self.new (item.Saved i cell) }
     {
-        let k = (self.heap_tops - 1 - i / 8) as usize;
+        let k = (self.heap_tops() - 1 - i / 8) as usize;
         self.memory.set_saved(k, (i % 8) as usize, cell);
         self.saved += 1;
     }
@@ -93,13 +92,6 @@ impl Draft {
     pub(crate) fn finish(self) -> Memory
         ensures { result ≡ self.memory }
     {
-        let Draft {
-            memory,
-            registers: _,
-            heap_tops: _,
-            trail_tops: _,
-            saved: _,
-        } = self;
-        memory
+        self.memory
     }
 }

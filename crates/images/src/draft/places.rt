@@ -1,4 +1,5 @@
-ghost use Rattle.std.specs.Prelude.{◌≡◌, true};
+ghost use Rattle.std.specs.Prelude.{◌≡◌, ◌≤◌, true, length};
+ghost use Rattle.tables.specs.Views.{tables_of};
 ghost use Rattle.images.specs.Text.{Listing};
 ghost use Rattle.images.specs.Reading.{follows, nothing, whole, no_tops, no_choices, no_trail, no_registers};
 ghost use Rattle.images.specs.Drafts.{Holds};
@@ -7,6 +8,7 @@ use super::Draft;
 use lines::Item;
 use tables::Memory;
 
+// These contracts speak of the listing that a draft stands for, which its fields do not hold.
 impl Draft {
     // Nothing is read.
     pub(crate) fn new() -> Draft
@@ -15,10 +17,18 @@ impl Draft {
         Draft {
             memory: Memory::new(),
             registers: 0,
-            heap_tops: 0,
             trail_tops: 0,
             saved: 0,
         }
+    }
+
+    // How many heap tops there are so far.
+    #[tactic(auto, using(tables::proofs::Lengths::depth_fits))]
+    pub(super) fn heap_tops(&self) -> u64
+        ensures count { result ≡ length (tables_of self.now.memory).choices }
+        ensures within { result ≤ 64 }
+    {
+        self.memory.depth() as u64
     }
 
     fn no_tops(&self) -> bool
@@ -30,7 +40,7 @@ impl Draft {
     fn no_choices(&self) -> bool
         ensures { (l : Listing) → Holds self.now l → result ≡ no_choices l }
     {
-        self.heap_tops == 0 && self.no_tops()
+        self.heap_tops() == 0 && self.no_tops()
     }
 
     fn no_trail(&self) -> bool
@@ -58,18 +68,21 @@ impl Draft {
                     && self.registers == 8
                     && self.no_choices()
             }
-            Item::HeapTop(i, _) => i == self.heap_tops
+            Item::HeapTop(i, _) => i == self.heap_tops()
                 && i < 64
                 && self.registers == 8
                 && self.no_tops(),
             Item::TrailTop(i, _) => {
-                i == self.trail_tops && i < self.heap_tops && self.registers == 8 && self.saved == 0
+                i == self.trail_tops
+                    && i < self.heap_tops()
+                    && self.registers == 8
+                    && self.saved == 0
             }
             Item::Saved(i, _) => {
                 i == self.saved
-                    && i < 8 * self.heap_tops
+                    && i < 8 * self.heap_tops()
                     && self.registers == 8
-                    && self.trail_tops == self.heap_tops
+                    && self.trail_tops == self.heap_tops()
             }
         }
     }
@@ -78,6 +91,8 @@ impl Draft {
     pub(crate) fn whole(&self) -> bool
         ensures { (l : Listing) → Holds self.now l → result ≡ whole l }
     {
-        self.registers == 8 && self.trail_tops == self.heap_tops && self.saved == 8 * self.heap_tops
+        self.registers == 8
+            && self.trail_tops == self.heap_tops()
+            && self.saved == 8 * self.heap_tops()
     }
 }

@@ -3,7 +3,7 @@ ghost use Rattle.lines.specs.Lines.{none, split};
 ghost use Rattle.lines.specs.Readers.{rest, Hands};
 
 use super::super::fault::LineFault;
-use super::super::line::{Line, length_before};
+use super::super::line::{Line, cut};
 use super::Reader;
 
 impl<'a> Reader<'a> {
@@ -12,8 +12,7 @@ impl<'a> Reader<'a> {
         ensures { (rest result ≡ image.now) × (result.next ≡ 1) }
     {
         Reader {
-            image,
-            at: 0,
+            rest: image,
             next: 1,
         }
     }
@@ -33,22 +32,13 @@ impl<'a> Reader<'a> {
               × (split 10 (rest self.old) ≡ rest self.old ∷ [])
         ] }
     {
-        if self.at >= self.image.len() {
+        if self.rest.is_empty() {
             return Ok(None);
         }
-        let start = self.at;
         let number = self.next;
-        let image = self.image;
-        let bytes = &image[start..];
-        let n = length_before(bytes, 10);
-        if n >= bytes.len() {
-            return Err(LineFault::BadShape { line: number });
-        }
-        self.at = start + n + 1;
+        let (text, rest) = cut(self.rest, b'\n').ok_or(LineFault::BadShape { line: number })?;
+        self.rest = rest;
         self.next = number + 1;
-        Ok(Some(Line {
-            text: &bytes[0..n],
-            number,
-        }))
+        Ok(Some(Line { text, number }))
     }
 }

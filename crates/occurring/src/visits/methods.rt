@@ -54,13 +54,12 @@ impl VisitTable {
     }
 }
 
-// Makes each byte 0 whose cell is listed, so all are.
+// Makes each byte 0 whose cell is listed, so all are. It takes the two fields alone: they agree again only at the end.
 fn clear_listed(bytes: &mut [u8; 4096], cells: &Stack<u16, 4096>)
     requires { Ones bytes.old (listed cells.now) }
     ensures { bytes.new ≡ replicate 4096 0 }
 {
-    for p in 0..cells.len() {
-        let n = cells.at(p);
-        bytes[n as usize] = 0;
+    for n in cells.as_slice() {
+        bytes[*n as usize] = 0;
     }
 }

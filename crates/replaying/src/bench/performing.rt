@@ -7,36 +7,37 @@ ghost use Rattle.replaying.specs.Benches.{bench_of, performed, reloaded};
 
 use super::super::reply::Reply;
 use super::super::request::Request;
-use super::calling::{plain, verdict};
 use super::keeping::give_up;
 use super::{Bench, calling};
 use images::LoadFault;
 use store::{Slip, Store};
 
-// Carries a request out on a store, with the slip that stands at `place` for put, hole, done and void.
+// Carries a request out on a store, with the slip that stands at `place` for put, hole, done and void. The two are lent apart:
+// while a call has the slip, what a bench knows of both does not hold: they agree again only at the end.
 fn carry_out(store: &mut Store, place: &mut Option<Slip>, request: Request) -> Reply
     requires { Agrees (state store.old) (slip_of place.old) }
     ensures { (result, bench_of store.new place.new) ≡ performed request (bench_of store.old place.old) }
 {
+    // each arm is a reply; for a match to an Answer the five calls with a slip would return from its midst
     match request {
-        Request::Var { d } => Reply::Answered(plain(store.var(d))),
-        Request::Atom { d, n } => Reply::Answered(plain(store.atom(d, n))),
-        Request::Int { d, z } => Reply::Answered(plain(store.int(d, z))),
-        Request::Move { d, s } => Reply::Answered(plain(store.copy(d, s))),
-        Request::Look { s } => Reply::Answered(calling::seen(store, s)),
-        Request::Arg { d, s, i } => Reply::Answered(plain(store.arg(d, s, i))),
-        Request::Same { s, t } => Reply::Answered(verdict(store.same(s, t))),
-        Request::Unify { s, t } => Reply::Answered(verdict(store.unify(s, t))),
-        Request::Open => Reply::Answered(plain(store.open())),
-        Request::Retry => Reply::Answered(plain(store.retry())),
-        Request::Last => Reply::Answered(plain(store.last())),
-        Request::Cut { k } => Reply::Answered(plain(store.cut(k))),
+        Request::Var { d } => Reply::Answered(store.var(d).into()),
+        Request::Atom { d, n } => Reply::Answered(store.atom(d, n).into()),
+        Request::Int { d, z } => Reply::Answered(store.int(d, z).into()),
+        Request::Move { d, s } => Reply::Answered(store.copy(d, s).into()),
+        Request::Look { s } => Reply::Answered(store.look(s).into()),
+        Request::Arg { d, s, i } => Reply::Answered(store.arg(d, s, i).into()),
+        Request::Same { s, t } => Reply::Answered(store.same(s, t).into()),
+        Request::Unify { s, t } => Reply::Answered(store.unify(s, t).into()),
+        Request::Open => Reply::Answered(store.open().into()),
+        Request::Retry => Reply::Answered(store.retry().into()),
+        Request::Last => Reply::Answered(store.last().into()),
+        Request::Cut { k } => Reply::Answered(store.cut(k).into()),
         Request::Start { name, arity } => calling::start(store, place, name, arity),
         Request::Put { s } => calling::put(store, place, s),
         Request::Hole => calling::hole(store, place),
         Request::Done { d } => calling::done(store, place, d),
         Request::Void => calling::void(store, place),
-        Request::Usage => Reply::Answered(calling::counted(store)),
+        Request::Usage => Reply::Answered(store.usage().into()),
     }
 }
 
@@ -61,10 +62,7 @@ impl Bench {
     pub fn load(&mut self, image: &[u8]) -> Result<bool, LoadFault>
         ensures { (result, bench_of self.new.store self.new.slip) ≡ reloaded (loaded image.now) (bench_of self.old.store self.old.slip) }
     {
-        let store = match Store::load(image) {
-            Ok(store) => store,
-            Err(fault) => return Err(fault),
-        };
+        let store = Store::load(image)?;
         let given_up = give_up(&mut self.store, self.slip.take());
         self.store = store;
         Ok(given_up)

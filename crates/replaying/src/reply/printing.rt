@@ -7,6 +7,7 @@ use cells::{Seen, Verdict};
 use images::LoadFault;
 use std::fmt;
 
+// The texts of docs/REPLAY.md. They are the replies' own: weld_task prints the same answers in other words.
 impl fmt::Display for Reply {
     ghost output = { λ r. Some (reply_text r) };
 
@@ -25,14 +26,14 @@ impl fmt::Display for Reply {
                 let missing = slip.missing;
                 write!(f, "slip {functor} {missing}")
             }
-            Reply::Answered(
-                Answer::Counts {
-                    used,
-                    entries,
-                    points,
-                },
-            ) => { write!(f, "used {used} trail {entries} choices {points}") }
+            Reply::Answered(Answer::Counts(usage)) => write!(
+                f,
+                "used {} trail {} choices {}",
+                usage.used, usage.entries, usage.points
+            ),
             Reply::NoSlip => write!(f, "no slip"),
+            // the numbers stand here as in their definition; with refusal, rule and line of the fault the proof was tried
+            // and does not close
             Reply::NotLoaded(LoadFault::BadShape { line }) => write!(
                 f,
                 "refused 10 rule 0 line {line}"

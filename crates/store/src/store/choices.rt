@@ -13,9 +13,7 @@ impl Store {
         ensures result { (told nothing result, state self.new) ≡ called Open self.old }
         ensures kept { IfRefused result (Unchanged self.old self.new) }
     {
-        if let Some(why) = self.refused(Call::Open) {
-            return Err(why);
-        }
+        self.admit(Call::Open)?;
         self.memory.push_choice();
         Ok(())
     }
@@ -25,9 +23,7 @@ impl Store {
         ensures result { (told nothing result, state self.new) ≡ called Retry self.old }
         ensures kept { IfRefused result (Unchanged self.old self.new) }
     {
-        if let Some(why) = self.refused(Call::Retry) {
-            return Err(why);
-        }
+        self.admit(Call::Retry)?;
         go_back(&mut self.memory);
         Ok(())
     }
@@ -37,9 +33,7 @@ impl Store {
         ensures result { (told nothing result, state self.new) ≡ called Last self.old }
         ensures kept { IfRefused result (Unchanged self.old self.new) }
     {
-        if let Some(why) = self.refused(Call::Last) {
-            return Err(why);
-        }
+        self.admit(Call::Last)?;
         let points = self.memory.depth();
         go_back(&mut self.memory);
         self.memory.keep_choices(points - 1);
@@ -51,9 +45,7 @@ impl Store {
         ensures result { (told nothing result, state self.new) ≡ called (Cut k) self.old }
         ensures kept { IfRefused result (Unchanged self.old self.new) }
     {
-        if let Some(why) = self.refused(Call::Cut { k }) {
-            return Err(why);
-        }
+        self.admit(Call::Cut { k })?;
         self.memory.keep_choices(k as usize);
         Ok(())
     }

@@ -15,9 +15,7 @@ impl Store {
         ensures result { (told agrees result, state self.new) ≡ called (Same s t) self.old }
         ensures kept { IfRefused result (Unchanged self.old self.new) }
     {
-        if let Some(why) = self.refused(Call::Same { s, t }) {
-            return Err(why);
-        }
+        self.admit(Call::Same { s, t })?;
         let left = self.memory.register(s as usize);
         let right = self.memory.register(t as usize);
         Ok(self.work.same(&self.memory, left, right))
@@ -30,9 +28,7 @@ impl Store {
         ensures iso { UnifiesTerms (state self.old).tables s t result (state self.new).tables }
         ensures kept { IfRefused result (Unchanged self.old self.new) }
     {
-        if let Some(why) = self.refused(Call::Unify { s, t }) {
-            return Err(why);
-        }
+        self.admit(Call::Unify { s, t })?;
         let left = self.memory.register(s as usize);
         let right = self.memory.register(t as usize);
         Ok(unify(&mut self.memory, left, right, &mut self.work))

@@ -1,22 +1,23 @@
+ghost use Rattle.std.specs.Result.{result_err};
 ghost use Rattle.std.specs.Prelude.{◌≡◌, true};
 ghost use Rattle.tables.specs.Views.{tables_of};
 ghost use Rattle.calls.specs.declared.Call.TheVariants.{Look, Arg, Usage as UsageCall};
-ghost use Rattle.calls.specs.declared.Answer.TheVariants.{Sees};
+ghost use Rattle.calls.specs.declared.Answer.TheVariants.{Sees, Counts};
 ghost use Rattle.calls.specs.Steps.{name_of, seen_at};
 ghost use Rattle.cells.specs.Cells.{in_range, functor_value};
 ghost use Rattle.heaps.specs.Spelling.{arity_of};
 ghost use Rattle.heaps.specs.LevelLaws.{Stands, Keeps};
 ghost use Rattle.refusing.specs.Refused.{refusal_for};
-ghost use Rattle.store.specs.Called.{state, called, told, nothing, counts, Unchanged, IfRefused};
+ghost use Rattle.store.specs.Called.{state, called, told, nothing, Unchanged, IfRefused};
 
-use super::{Store, Usage};
+use super::Store;
 use calls::Call;
 use cells::{Cell, Refusal, Seen};
 use reading::end_of;
-use refusing::{argument, refused};
-use tables::Memory;
+use refusing::{admit, argument};
+use tables::{Memory, Usage};
 
-// What is seen of a word at the end of a chain.
+// What is seen of a word at the end of a chain. No chain ends at a functor; the definition answers so there.
 fn seen_at(memory: &Memory, word: Cell) -> Seen
     requires stands { Stands (tables_of memory.now) }
     requires keeps { Keeps (tables_of memory.now) word }
@@ -38,25 +39,24 @@ fn functor_value(cell: Cell) -> u32
 {
     match cell {
         Cell::Functor { name, arity } => name as u32 * 64 + arity as u32,
+        // does not come up: a pointer leads to a functor
         _ => 0,
     }
 }
 
 impl Store {
-    // With what a call is refused, if it is.
-    pub(super) fn refused(&self, call: Call) -> Option<Refusal>
-        ensures { result ≡ refusal_for call (state self.now) }
+    // Whether a call is accepted, or with what it is refused.
+    pub(super) fn admit(&self, call: Call) -> Result<(), Refusal>
+        ensures { result_err result ≡ refusal_for call (state self.now) }
     {
-        refused(&self.memory, self.half, call)
+        admit(&self.memory, self.half, call)
     }
 
     // What stands at the end of Xs's chain.
     pub fn look(&self, s: u64) -> Result<Seen, Refusal>
         ensures { (told Sees result, state self.now) ≡ called (Look s) self.now }
     {
-        if let Some(why) = self.refused(Call::Look { s }) {
-            return Err(why);
-        }
+        self.admit(Call::Look { s })?;
         let end = end_of(&self.memory, self.memory.register(s as usize));
         Ok(seen_at(&self.memory, end))
     }
@@ -66,9 +66,7 @@ impl Store {
         ensures result { (told nothing result, state self.new) ≡ called (Arg d s i) self.old }
         ensures kept { IfRefused result (Unchanged self.old self.new) }
     {
-        if let Some(why) = self.refused(Call::Arg { d, s, i }) {
-            return Err(why);
-        }
+        self.admit(Call::Arg { d, s, i })?;
         let Some(place) = argument(&self.memory, s, i) else {
             unreachable();
         };
@@ -79,12 +77,8 @@ impl Store {
 
     // How much of the store is in use.
     pub fn usage(&self) -> Usage
-        ensures { (counts result, state self.now) ≡ called UsageCall self.now }
+        ensures { (Counts result, state self.now) ≡ called UsageCall self.now }
     {
-        Usage {
-            used: self.memory.used() as u64,
-            entries: self.memory.trailed() as u64,
-            points: self.memory.depth() as u64,
-        }
+        self.memory.usage()
     }
 }

@@ -29,10 +29,7 @@ impl Store {
         ensures text { LoadedIsText }
         ensures one { TextOne }
     {
-        match load(image) {
-            Ok(memory) => Ok(Store::over(memory)),
-            Err(fault) => Err(fault),
-        }
+        Ok(Store::over(load(image)?))
     }
 
     // A store with these tables, and no structure half made.

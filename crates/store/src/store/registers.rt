@@ -12,23 +12,19 @@ impl Store {
         ensures result { (told nothing result, state self.new) ≡ called (Var d) self.old }
         ensures kept { IfRefused result (Unchanged self.old self.new) }
     {
-        if let Some(why) = self.refused(Call::Var { d }) {
-            return Err(why);
-        }
+        self.admit(Call::Var { d })?;
         let at = Cell::Reference(self.memory.used() as u64);
         self.memory.push_cell(at);
         self.memory.set_register(d as usize, at);
         Ok(())
     }
 
-    // Sets Xd to an atom.
+    // Sets Xd to an atom. No shorter as one with int: each is its admit and its cell.
     pub fn atom(&mut self, d: u64, n: u64) -> Result<(), Refusal>
         ensures result { (told nothing result, state self.new) ≡ called (Atom d n) self.old }
         ensures kept { IfRefused result (Unchanged self.old self.new) }
     {
-        if let Some(why) = self.refused(Call::Atom { d, n }) {
-            return Err(why);
-        }
+        self.admit(Call::Atom { d, n })?;
         self.memory.set_register(d as usize, Cell::Atom(n));
         Ok(())
     }
@@ -38,9 +34,7 @@ impl Store {
         ensures result { (told nothing result, state self.new) ≡ called (Int d z) self.old }
         ensures kept { IfRefused result (Unchanged self.old self.new) }
     {
-        if let Some(why) = self.refused(Call::Int { d, z }) {
-            return Err(why);
-        }
+        self.admit(Call::Int { d, z })?;
         self.memory.set_register(d as usize, Cell::Integer(z));
         Ok(())
     }
@@ -50,9 +44,7 @@ impl Store {
         ensures result { (told nothing result, state self.new) ≡ called (Move d s) self.old }
         ensures kept { IfRefused result (Unchanged self.old self.new) }
     {
-        if let Some(why) = self.refused(Call::Move { d, s }) {
-            return Err(why);
-        }
+        self.admit(Call::Move { d, s })?;
         let word = self.memory.register(s as usize);
         self.memory.set_register(d as usize, word);
         Ok(())

@@ -1,9 +1,12 @@
-ghost use Rattle.std.specs.Prelude.{◌≡◌, pred, ◌+◌, ◌<◌, ◌≤◌, false, ◌++◌, replicate, Some};
+ghost use Rattle.std.specs.Prelude.{◌≡◌, ◌+◌, ◌≤◌, ◌==◌, true, false, ◌++◌, replicate, Some, None, IfOk, IfErr};
+ghost use Rattle.refusing.specs.Refused.{refusal_for};
 ghost use Rattle.cells.specs.declared.cell.Cell.TheVariants.{Atom};
 ghost use Rattle.tables.specs.Tables.{used, with_heap};
 ghost use Rattle.tables.specs.Views.{tables_of};
 ghost use Rattle.calls.specs.Refusals.{wrong_slip};
-ghost use Rattle.calls.specs.Steps.{draft};
+ghost use Rattle.cells.specs.Cells.{in_range};
+ghost use Rattle.calls.specs.Steps.{draft, on_half, write};
+ghost use Rattle.calls.specs.Whole.{Whole};
 ghost use Rattle.calls.specs.declared.Call.TheVariants.{Start, Put, Hole, Done, Void};
 ghost use Rattle.store.specs.Called.{state, called, told, told_back, nothing, hands, Unchanged, IfRefused, HandsBack};
 
@@ -20,20 +23,6 @@ impl Slip {
     {
         self.draft
     }
-
-    // The slip with one fewer missing.
-    fn fewer(self) -> Slip
-        requires { 0 < self.draft.missing }
-        ensures { result.draft ≡ record { name = self.draft.name; arity = self.draft.arity; missing = pred self.draft.missing } }
-    {
-        let Slip { draft } = self;
-        let draft = Draft {
-            name: draft.name,
-            arity: draft.arity,
-            missing: draft.missing - 1,
-        };
-        Slip { draft }
-    }
 }
 
 impl Store {
@@ -42,9 +31,7 @@ impl Store {
         ensures result { (told hands result, state self.new) ≡ called (Start name arity) self.old }
         ensures kept { IfRefused result (Unchanged self.old self.new) }
     {
-        if let Some(why) = self.refused(Call::Start { name, arity }) {
-            return Err(why);
-        }
+        self.admit(Call::Start { name, arity })?;
         let at = self.memory.used();
         self.memory.push_cell(Cell::Functor { name, arity });
         push_blanks(&mut self.memory, arity);
@@ -63,15 +50,13 @@ impl Store {
         ensures kept { IfRefused result (Unchanged self.old self.new) }
         ensures back { HandsBack result slip }
     {
-        let draft = slip.draft;
-        if let Some(why) = self.refused(Call::Put { slip: draft, s }) {
-            return Err((why, slip));
-        }
-        let half = self.half_of(draft);
+        let call = Call::Put {
+            slip: slip.draft,
+            s,
+        };
+        let slip = self.admitted(call, slip)?;
         let word = self.memory.register(s as usize);
-        self.memory.set_cell(half.next(draft), word);
-        self.half = Some(half.fewer());
-        Ok(slip.fewer())
+        Ok(self.write(slip, word))
     }
 
     // Writes an unbound variable as the next argument, and hands the slip on.
@@ -81,14 +66,29 @@ impl Store {
         ensures back { HandsBack result slip }
     {
         let draft = slip.draft;
-        if let Some(why) = self.refused(Call::Hole { slip: draft }) {
-            return Err((why, slip));
-        }
+        let slip = self.admitted(Call::Hole { slip: draft }, slip)?;
+        let next = self.half_of(draft).next(draft);
+        Ok(self.write(slip, Cell::Reference(next as u64)))
+    }
+
+    // Writes a word as the next argument. The slip then says one fewer missing.
+    fn write(&mut self, slip: Slip, word: Cell) -> Slip
+        requires right { wrong_slip (draft (state self.old)) slip.draft ≡ false }
+        requires more { (slip.draft.missing == 0) ≡ false }
+        requires range { in_range word ≡ true }
+        requires whole { Whole (on_half (state self.old) (write (state self.old) word)).1 }
+        ensures { (hands result, state self.new) ≡ on_half (state self.old) (write (state self.old) word) }
+    {
+        let Slip { draft } = slip;
         let half = self.half_of(draft);
-        let next = half.next(draft);
-        self.memory.set_cell(next, Cell::Reference(next as u64));
+        self.memory.set_cell(half.next(draft), word);
         self.half = Some(half.fewer());
-        Ok(slip.fewer())
+        Slip {
+            draft: Draft {
+                missing: draft.missing - 1,
+                ..draft
+            },
+        }
     }
 
     // Points Xd at the structure, which is finished.
@@ -97,13 +97,11 @@ impl Store {
         ensures kept { IfRefused result (Unchanged self.old self.new) }
         ensures back { HandsBack result slip }
     {
-        if let Some(why) = self.refused(Call::Done {
+        let call = Call::Done {
             slip: slip.draft,
             d,
-        }) {
-            return Err((why, slip));
-        }
-        let Slip { draft } = slip;
+        };
+        let Slip { draft } = self.admitted(call, slip)?;
         let half = self.half_of(draft);
         self.memory
             .set_register(d as usize, Cell::Pointer(half.at as u64));
@@ -111,20 +109,29 @@ impl Store {
         Ok(())
     }
 
-    // Gives back the cells of the structure.
+    // Gives back the cells of the structure. What done does too is `admitted`, `half_of` and `half = None`: the statement in
+    // which they differ stands between the last two.
     pub fn void(&mut self, slip: Slip) -> Result<(), (Refusal, Slip)>
         ensures result { (told_back nothing result, state self.new) ≡ called (Void slip.draft) self.old }
         ensures kept { IfRefused result (Unchanged self.old self.new) }
         ensures back { HandsBack result slip }
     {
-        if let Some(why) = self.refused(Call::Void { slip: slip.draft }) {
-            return Err((why, slip));
-        }
-        let Slip { draft } = slip;
+        let Slip { draft } = self.admitted(Call::Void { slip: slip.draft }, slip)?;
         let half = self.half_of(draft);
         self.memory.cut_heap(half.at);
         self.half = None;
         Ok(())
+    }
+
+    // The slip of a call that is accepted. It goes back with a refusal; a closure for map_err would take it in both cases.
+    fn admitted(&self, call: Call, slip: Slip) -> Result<Slip, (Refusal, Slip)>
+        ensures taken { IfOk result (λ x. (x ≡ slip) × (None ≡ refusal_for call (state self.now))) }
+        ensures back { IfErr result (λ e. (e.1 ≡ slip) × (Some e.0 ≡ refusal_for call (state self.now))) }
+    {
+        match self.admit(call) {
+            Ok(()) => Ok(slip),
+            Err(why) => Err((why, slip)),
+        }
     }
 
     // The half-made structure that the slip belongs to.
@@ -132,10 +139,10 @@ impl Store {
         requires { wrong_slip (draft (state self.now)) slip ≡ false }
         ensures { (state self.now).half ≡ Some (record { at = result.at; missing = result.missing }) }
     {
-        match self.half {
-            Some(half) => half,
-            None => unreachable(),
-        }
+        let Some(half) = self.half else {
+            unreachable();
+        };
+        half
     }
 }
 

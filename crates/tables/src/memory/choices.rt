@@ -8,6 +8,7 @@ use super::{ChoicePoint, Memory};
 use cells::Cell;
 
 // A choice point is named by its distance from the newest, which is the 0th.
+// That the place is valid is a fact of each call, so it is a clause.
 impl Memory {
     // How many choice points there are.
     pub fn depth(&self) -> usize
@@ -75,6 +76,15 @@ impl Memory {
     {
         let point = self.point(k);
         Cell::of(point.saved[r])
+    }
+
+    // All saved registers of a choice point.
+    pub fn saved_registers(&self, k: usize) -> [Cell; 8]
+        requires { k < length (tables_of self.now).choices }
+        ensures { result ≡ (choice_at (tables_of self.now) k).saved }
+    {
+        let point = self.point(k);
+        point.saved.map(Cell::of)
     }
 
     // How many registers a choice point saves.

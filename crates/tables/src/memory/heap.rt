@@ -1,9 +1,10 @@
 ghost use Rattle.std.specs.Prelude.{◌≡◌, ◌<◌, true, length};
 ghost use Rattle.cells.specs.Cells.{in_range};
-ghost use Rattle.tables.specs.Tables.{set_up, used, cell_at, set_cell, push_cell, cut_heap};
+ghost use Rattle.tables.specs.Tables.{set_up, used, usage_of, cell_at, set_cell, push_cell, cut_heap};
 ghost use Rattle.tables.specs.Views.{tables_of};
 
 use super::super::stack::Stack;
+use super::super::usage::Usage;
 use super::{ChoicePoint, Memory};
 use cells::Cell;
 
@@ -12,8 +13,9 @@ impl Memory {
     pub fn new() -> Memory
         ensures { tables_of result ≡ set_up }
     {
+        let atom_0 = Cell::Atom(0).word();
         let none = ChoicePoint {
-            saved: [3; 8],
+            saved: [atom_0; 8],
             heap_top: 0,
             trail_top: 0,
         };
@@ -21,7 +23,7 @@ impl Memory {
             heap: Stack::new(0),
             trail: Stack::new(0),
             choices: Stack::new(none),
-            registers: [3; 8],
+            registers: [atom_0; 8],
         }
     }
 
@@ -30,6 +32,17 @@ impl Memory {
         ensures { result ≡ used (tables_of self.now) }
     {
         self.heap.len()
+    }
+
+    // How many cells, trail entries and choice points are in use.
+    pub fn usage(&self) -> Usage
+        ensures { result ≡ usage_of (tables_of self.now) }
+    {
+        Usage {
+            used: self.heap.len() as u64,
+            entries: self.trail.len() as u64,
+            points: self.choices.len() as u64,
+        }
     }
 
     // What a cell holds; a cell that is not in use counts as an unbound variable.

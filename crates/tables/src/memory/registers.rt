@@ -7,6 +7,14 @@ use super::Memory;
 use cells::Cell;
 
 impl Memory {
+    // What all registers hold.
+    pub fn registers(&self) -> [Cell; 8]
+        ensures { result ≡ (tables_of self.now).registers }
+    {
+        let registers = self.registers;
+        registers.map(Cell::of)
+    }
+
     pub fn register(&self, r: usize) -> Cell
         requires { r < 8 }
         ensures { result ≡ register (tables_of self.now) r }

@@ -1,4 +1,4 @@
-ghost use Rattle.std.specs.Prelude.{◌≡◌, ℕ, ◌<◌, List, [], ◌∷◌, ◌++◌, length, take, slice_index_or, slice_set};
+ghost use Rattle.std.specs.Prelude.{◌≡◌, ℕ, ◌<◌, List, [], ◌∷◌, ◌++◌, length, take, slice_index_or, slice_set, option_to_list, IsSome, ◌↔◌};
 ghost use Rattle.tables.specs.Stacks.{listed};
 
 use super::Stack;
@@ -19,6 +19,13 @@ impl<T: Copy, const N: usize> Stack<T, N> {
         ensures { result ≡ length (listed self.now) }
     {
         self.len // the array has further, spare places
+    }
+
+    // The places in use, from the first on.
+    pub fn as_slice(&self) -> &[T]
+        ensures { result.now ≡ listed self.now }
+    {
+        &self.items[..self.len]
     }
 
     pub fn at(&self, place: usize) -> T
@@ -43,15 +50,14 @@ impl<T: Copy, const N: usize> Stack<T, N> {
         self.len += 1;
     }
 
-    // What came last leaves.
-    pub fn pop(&mut self) -> T
-        requires { 0 < length (listed self.old) }
-        ensures { listed self.old ≡ listed self.new ++ (result ∷ []) }
+    // What came last leaves, if anything is in use.
+    pub fn pop(&mut self) -> Option<T>
+        ensures items { listed self.old ≡ listed self.new ++ option_to_list result }
+        ensures variant { IsSome result ↔ (0 < length (listed self.old)) }
     {
-        let last = self.len() - 1;
-        let x = self.at(last);
-        self.truncate(last);
-        x
+        let last = self.len.checked_sub(1)?;
+        self.len = last;
+        Some(self.items[last])
     }
 
     // Keeps the first n places, or all where there are fewer.

@@ -27,12 +27,6 @@ impl Frames {
         self.stack.truncate(0);
     }
 
-    pub(crate) fn len(&self) -> usize
-        ensures { result ≡ length (pairs self.now) }
-    {
-        self.stack.len()
-    }
-
     pub(crate) fn push(&mut self, frame: Frame)
         requires { length (pairs self.old) < 4096 }
         ensures { pairs self.new ≡ rows_of frame ∷ pairs self.old }
@@ -40,20 +34,12 @@ impl Frames {
         self.stack.push(frame);
     }
 
-    pub(crate) fn pop(&mut self) -> Frame
-        requires { 0 < length (pairs self.old) }
-        ensures { pairs self.old ≡ rows_of result ∷ pairs self.new }
-    {
-        self.stack.pop()
-    }
-
     // The next two cells to be gone through. Rows that have none left leave.
     pub(crate) fn next(&mut self) -> Option<(u16, u16)>
         requires { Each Inside (pairs self.old) }
         ensures { Draws (pairs self.old) result (pairs self.new) }
     {
-        while self.len() > 0 {
-            let frame = self.pop();
+        while let Some(frame) = self.stack.pop() {
             if frame.count > 0 {
                 self.push(Frame {
                     left: frame.left + 1,

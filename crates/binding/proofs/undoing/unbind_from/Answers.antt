@@ -3,16 +3,8 @@ use Rattle.std.proofs.lemmas.Bool.{lt-ltb}
 use Rattle.cells.specs.declared.cell.Cell.TheVariants.{Reference}
 use Rattle.tables.specs.Tables.{Tables, used, set_cell}
 use Rattle.tables.specs.Views.{tables_of}
-use Rattle.binding.proofs.UnbindSteps.{entry_inside, used_undone, undone_none, undone_more, undone_all}
+use Rattle.binding.proofs.UnbindSteps.{entry_inside, used_undone, undone_more}
 use Rattle.binding.proofs.undoing.unbind_from.Goals as goal
-
-pub loop-i-init : goal.loop-i-init
-loop-i-init c = sym (undone_none (tables_of c.args.memory.now) c.args.top)
-
-pub entry-at-requires : goal.entry-at-requires
-entry-at-requires c =
-    let same : (tables_of c.loop-i.memory).trail ≡ (tables_of c.args.memory.now).trail = ap (λ (t : Tables). t.trail) c.loop-i.invariant in
-    omega (arith, ap length same)
 
 pub set_cell-requires : goal.set_cell-requires
 set_cell-requires c =
@@ -34,6 +26,3 @@ loop-i-preserved c =
     c.set_cell.ensures
     ∙ ap₂ (λ (u : Tables) (e : ℕ). set_cell u e (Reference e)) c.loop-i.invariant is
     ∙ undone_more t c.args.top i c.loop-i.auto.i inside
-
-pub returns : goal.returns
-returns c = c.loop-i.invariant ∙ undone_all (tables_of c.args.memory.now) c.args.top c.loop-i.i (omega (arith, c.loop-i-test.false, c.trailed-entries.ensures))

@@ -1,15 +1,21 @@
 use Rattle.std.proofs.Common.{arith}
-use Rattle.heaps.proofs.Searches.{in_second}
 use Rattle.tables.proofs.Lengths.{used_fits, trail_fits, depth_fits}
+use Rattle.checking.proofs.FoundLines.{found_fits, part_line, either_part}
 use Rattle.checking.proofs.top_rule.first_stray_top.Goals as goal
 
-pub lowest_line-requires : goal.lowest_line-requires
-lowest_line-requires c = omega (arith, used_fits c.args.memory.now, trail_fits c.args.memory.now, depth_fits c.args.memory.now)
+pub on_line-requires : goal.on_line-requires
+on_line-requires c =
+    found_fits _ _ c.first_stray-heap_top.ensures c.heap_top_line.result
+    (omega (arith, c.heap_top_line.ensures, used_fits c.args.memory.now, trail_fits c.args.memory.now, depth_fits c.args.memory.now))
 
-pub lowest_line-requires-2 : goal.lowest_line-requires-2
-lowest_line-requires-2 c = omega (arith, used_fits c.args.memory.now, trail_fits c.args.memory.now, depth_fits c.args.memory.now)
+pub on_line-requires-2 : goal.on_line-requires-2
+on_line-requires-2 c =
+    found_fits _ _ c.first_stray-trail_top.ensures c.trail_top_line.result
+    (omega (arith, c.trail_top_line.ensures, used_fits c.args.memory.now, trail_fits c.args.memory.now, depth_fits c.args.memory.now))
 
 pub returns : goal.returns
 returns c =
-    in_second c.heap_top_line-line.result c.trail_top_line-line.result _ _ _ _ c.lowest_line-2.result
-    c.heap_top_line-line.ensures c.trail_top_line-line.ensures c.in_default.ensures c.lowest_line-2.ensures
+    either_part
+    (part_line _ _ (rw (c.used.ensures, c.depth-depth.ensures) at c.first_stray-heap_top.ensures) c.heap_top_line.ensures c.on_line.ensures)
+    (part_line _ _ (rw (c.trailed.ensures, c.depth-depth.ensures) at c.first_stray-trail_top.ensures) c.trail_top_line.ensures c.on_line-2.ensures)
+    c.or.ensures

@@ -1,19 +1,16 @@
-use Rattle.std.proofs.Common.{ℕ, ◌<◌, ◌≤◌, get_or, sym, subst, inl, inr, arith}
-use Rattle.std.proofs.lemmas.Bool.{cases_eq}
-use Rattle.tables.specs.Views.{tables_of}
+use Rattle.std.proofs.Common.{arith, rules, tests}
+use Rattle.std.proofs.lemmas.Bool.{not-true}
 use Rattle.tables.specs.Tables.{used}
-use Rattle.heaps.specs.Leads.{heap_of, Leads}
+use Rattle.tables.specs.Views.{tables_of}
+use Rattle.heaps.specs.Leads.{heap_of}
+use Rattle.words.proofs.Ranges.{any_in_range}
+use Rattle.cycles.specs.Spans.{NoneBelow}
+use Rattle.cycles.specs.Works.{rank_of}
 use Rattle.cycles.proofs.certificate.none_falls.Goals as goal
 
-pub loop-i-preserved : goal.loop-i-preserved
-loop-i-preserved c i lt =
-    let rank : ℕ → ℕ = λ k. get_or c.args.ranks.now.numbers k 0 in
-    elim (cases_eq i c.loop-i.i) [
-      | inl e ↦
-          subst (λ (x : ℕ). (j : ℕ) → Leads (heap_of (tables_of c.args.memory.now).heap) x j → j < used (tables_of c.args.memory.now) → rank x ≤ rank j) (sym e)
-          (λ j l k. let a = c.leads_below.ensures c.if-leads_below.false j l k in omega (arith, a, c.get-rank.ensures.number))
-      | inr e ↦ c.loop-i.invariant i (omega arith)
-    ]
-
 pub returns : goal.returns
-returns c e i lt = c.loop-i.invariant i (omega (arith, c.used-i-end.ensures))
+returns c e i lt =
+    let t = tables_of c.args.memory.now in
+    let rank = rank_of c.args.walk.now in
+    (any_in_range _ _ _ _ (λ k. Unit {0}) (λ k. NoneBelow (heap_of t.heap) (used t) rank k (rank k)) c.any.ensures.ran
+    (λ x q k. tt) (λ x q k. search (rules, tests))).1 (not-true _ e) i (omega arith) (omega (arith, c.used.ensures))

@@ -1,4 +1,4 @@
-use Rattle.std.proofs.Common.{sym, ◌∙◌, arith, below_more}
+use Rattle.std.proofs.Common.{sym, ◌∙◌, arith}
 use Rattle.tables.specs.Tables.{used}
 use Rattle.tables.specs.Views.{tables_of}
 use Rattle.heaps.specs.Leads.{heap_of}
@@ -11,9 +11,6 @@ returns-then-lies_on_cycle g c =
     let t = tables_of c.args.memory.now in
     sym (lowest_found (on_cycle (heap_of t.heap) (used t)) (used t) c.loop-cell.cell (omega (arith, c.used-cell-end.ensures))
     (sym c.lies_on_cycle.ensures ∙ c.if-lies_on_cycle.true) c.loop-cell.invariant)
-
-pub loop-cell-preserved : goal.loop-cell-preserved
-loop-cell-preserved g c = below_more _ _ c.loop-cell.invariant (sym c.lies_on_cycle.ensures ∙ c.if-lies_on_cycle.false)
 
 pub returns : goal.returns
 returns g c =

@@ -1,16 +1,12 @@
-use Rattle.std.proofs.Common.{◌≡◌, ℕ, ◌+◌, Bool, sym, refl, ap, ◌∙◌, subst, arith}
-use Rattle.std.proofs.lemmas.Bool.{true≢false}
+use Rattle.std.proofs.Common.{◌≡◌, ℕ, ◌+◌, Bool, sym, ap, ◌∙◌, subst, arith}
 use Rattle.tables.specs.Tables.{used}
 use Rattle.tables.specs.Views.{tables_of}
 use Rattle.heaps.specs.Leads.{heap_of}
 use Rattle.cycles.specs.Spans.{Round}
 use Rattle.tables.proofs.Lengths.{used_fits}
-use Rattle.cycles.proofs.GatherLaws.{round_none, round_skip, round_mark}
+use Rattle.cycles.proofs.GatherLaws.{round_skip, round_mark}
 use Rattle.cycles.proofs.slow.spread_once.Goals as goal
 use Rattle.cycles.proofs.slow.spread_once.Goals.{then-joins, else-joins}
-
-pub loop-i-init : goal.loop-i-init
-loop-i-init g c = (round_none _ _ _, λ e. refl)
 
 pub loop-i-preserved : goal.loop-i-preserved
 loop-i-preserved g c =
@@ -22,7 +18,7 @@ loop-i-preserved g c =
       | then-joins w ↦ (
         round_mark h n c.loop-i.i (omega (arith, used_fits m)) (has c.args.members.now) (has c.loop-i.members) (has c.if-joins.members)
             (ap has w.members-is ∙ w.mark.ensures) c.loop-i.invariant.0 (c.joins.ensures.found w.if-joins.true),
-        λ e. absurd (true≢false (sym w.more-is ∙ e)),
+        λ e. absurd (cc),
       )
       | else-joins w ↦ (
         subst (λ (u : ℕ → Bool). Round h (c.loop-i.i + 1) n (has c.args.members.now) u) (ap has (sym w.members-is))

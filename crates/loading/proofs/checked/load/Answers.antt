@@ -1,13 +1,21 @@
-use Rattle.std.proofs.Common.{rules}
 use Rattle.images.proofs.LoadedRules.{loaded_is_text}
 use Rattle.images.proofs.LoadedTexts.{text_one}
 use Rattle.loading.proofs.checked.load.Goals as goal
 
-pub returns-in-Err : goal.returns-in-Err
-returns-in-Err c = record { result = search rules; text = loaded_is_text; one = text_one }
+pub returns-in_err-memory-clause-text : goal.returns-in_err-memory-clause-text
+returns-in_err-memory-clause-text c = loaded_is_text
 
-pub returns-in-None : goal.returns-in-None
-returns-in-None c = record { result = search rules; text = loaded_is_text; one = text_one }
+pub returns-in_err-memory-clause-one : goal.returns-in_err-memory-clause-one
+returns-in_err-memory-clause-one c = text_one
 
-pub returns-in-Some : goal.returns-in-Some
-returns-in-Some c = record { result = search rules; text = loaded_is_text; one = text_one }
+pub returns-in_err-check-clause-text : goal.returns-in_err-check-clause-text
+returns-in_err-check-clause-text c = loaded_is_text
+
+pub returns-in_err-check-clause-one : goal.returns-in_err-check-clause-one
+returns-in_err-check-clause-one c = text_one
+
+pub returns-clause-text : goal.returns-clause-text
+returns-clause-text c = loaded_is_text
+
+pub returns-clause-one : goal.returns-clause-one
+returns-clause-one c = text_one

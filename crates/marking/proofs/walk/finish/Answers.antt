@@ -1,36 +1,54 @@
-use Rattle.std.proofs.Common.{◌≡◌, ◌≤◌, List, [], ◌∷◌, length, refl, arith}
+use Rattle.std.proofs.Common.{◌≡◌, ◌<◌, true, [], ◌∷◌, ◌++◌, length, sym, ap, ◌∙◌, subst, ⊎_elim, arith, length-append}
+use Rattle.std.proofs.lemmas.Bool.{cases_lt, both_ways}
 use Rattle.tables.specs.Views.{tables_of}
+use Rattle.tables.specs.Stacks.{listed}
+use Rattle.heaps.specs.Lists.{Among, here}
 use Rattle.heaps.specs.Leads.{heap_of}
 use Rattle.marking.specs.Walks.{waiting}
 use Rattle.marking.proofs.Counts.{count_le}
-use Rattle.marking.proofs.Walks.{grown_none, grown_then, closed_done}
+use Rattle.marking.proofs.Members.{among_right}
+use Rattle.marking.proofs.Walks.{word_inside, underway_look, grown_look, fewer, grown_none, grown_then}
 use Rattle.marking.proofs.walk.finish.Goals as goal
 
-pub loop-marks-init : goal.loop-marks-init
-loop-marks-init g c = (c.requires.underway, grown_none (heap_of (tables_of c.args.memory.now).heap) (g.M.Marks.has c.args.marks.now))
+pub loop-at-init : goal.loop-at-init
+loop-at-init g c = (c.requires.underway, grown_none (heap_of (tables_of c.args.memory.now).heap) (g.M.Marks.has c.args.marks.now))
 
-pub loop-marks-preserved : goal.loop-marks-preserved
-loop-marks-preserved g c =
-    (c.look.ensures.underway, grown_then (heap_of (tables_of c.args.memory.now).heap) c.loop-marks.invariant.1 c.look.ensures.grown)
-
-pub loop-marks-smaller : goal.loop-marks-smaller
-loop-marks-smaller g c = omega (arith, c.look.ensures.fewer, count_le (g.M.Marks.has c.look.new.marks) 4096)
-
-pub look-requires : goal.look-requires
-look-requires g c =
-    record { inside = c.requires.inside; underway = c.loop-marks.invariant.0; waits = omega (arith, c.loop-marks-test.true, c.len.ensures) }
-
-nothing : {A : Type 0} (xs : List A) → length xs ≤ 0 → xs ≡ []
-nothing [] h = refl
-nothing (x ∷ xs) h = absurd (omega arith)
-
-pub returns : goal.returns
-returns g c =
-    let none : waiting c.loop-marks.pending ≡ [] = nothing (waiting c.loop-marks.pending) (omega (arith, c.loop-marks-test.false, c.len.ensures)) in
+pub follow-requires : goal.follow-requires
+follow-requires g c =
+    let h = heap_of (tables_of c.args.memory.now).heap in
+    let n = c.in-Some.at in
+    let s = g.M.Marks.has c.loop-at.marks in
+    let p = waiting c.loop-at.pending in
+    let q = listed c.pop.new.self in
+    let popped : p ≡ q ++ (n ∷ []) = c.in-Some.ensures.items in
+    let marked : s n ≡ true = c.loop-at.invariant.0.members n (subst (Among n) (sym popped) (among_right q here)) in
+    let low : n < 4096 = ⊎_elim (λ (l : n < 4096). l) (λ l. absurd (both_ways (s n) (g.met.M.Marks.within c.loop-at.marks n l) marked)) (cases_lt n 4096) in
     record {
-      closed =
-          closed_done (heap_of (tables_of c.args.memory.now).heap) (g.M.Marks.has c.loop-marks.marks) (waiting c.loop-marks.pending)
-          c.loop-marks.invariant.0 none;
-      grown = c.loop-marks.invariant.1;
-      empty = none;
+      at = low;
+      inside = word_inside h c.requires.inside n c.cell-word.result c.cell-word.ensures low;
+      room = omega (arith, c.loop-at.invariant.0.room, ap length popped ∙ length-append q (n ∷ []));
     }
+
+pub loop-at-smaller : goal.loop-at-smaller
+loop-at-smaller g c =
+    let h = heap_of (tables_of c.args.memory.now).heap in
+    let t = g.M.Marks.has c.follow.new.marks in
+    let less = fewer h (g.M.Marks.has c.loop-at.marks) (waiting c.loop-at.pending) c.in-Some.at c.cell-word.result (listed c.pop.new.self) t (waiting c.follow.new.pending)
+    c.loop-at.invariant.0 c.in-Some.ensures.items c.cell-word.ensures c.follow.ensures in
+    omega (arith, less, count_le t 4096)
+
+pub loop-at-preserved : goal.loop-at-preserved
+loop-at-preserved g c =
+    let h = heap_of (tables_of c.args.memory.now).heap in
+    let s = g.M.Marks.has c.loop-at.marks in
+    let p = waiting c.loop-at.pending in
+    let n = c.in-Some.at in
+    let q = listed c.pop.new.self in
+    let t = g.M.Marks.has c.follow.new.marks in
+    let r = waiting c.follow.new.pending in
+    let w = c.cell-word.result in
+    let u = c.loop-at.invariant.0 in
+    let popped : p ≡ q ++ (n ∷ []) = c.in-Some.ensures.items in (
+      underway_look h s p n w q t r u popped c.cell-word.ensures c.follow.ensures,
+      grown_then h c.loop-at.invariant.1 (grown_look h s p n w q t r u popped c.cell-word.ensures c.follow.ensures),
+    )

@@ -4,11 +4,11 @@ use Rattle.heaps.specs.Leads.{heap_of}
 use Rattle.marking.specs.Walks.{waiting, total, Underway, Grown}
 use Rattle.marking.proofs.walk.finish.Given as goal
 
-abbrev pub invariant-loop-marks : goal.invariant-loop-marks
-invariant-loop-marks g l =
+abbrev pub invariant-loop-at : goal.invariant-loop-at
+invariant-loop-at g l =
     Underway (heap_of (tables_of l.memory).heap) (g.M.Marks.has l.marks) (waiting l.pending)
     × Grown (heap_of (tables_of l.memory).heap) (g.M.Marks.has l.initial.marks) (g.M.Marks.has l.marks)
 
 -- the cells that wait and those that are not marked
-abbrev pub decreases-loop-marks : goal.decreases-loop-marks
-decreases-loop-marks g l = length (waiting l.pending) + (4096 - total (g.M.Marks.has l.marks))
+abbrev pub decreases-loop-at : goal.decreases-loop-at
+decreases-loop-at g l = length (waiting l.pending) + (4096 - total (g.M.Marks.has l.marks))

@@ -1,24 +1,9 @@
 use Rattle.std.proofs.Common.{◌<◌, ◌≤◌, length, refl, ◌∙◌, arith, rules}
 use Rattle.tables.specs.Views.{tables_of}
 use Rattle.heaps.specs.Leads.{heap_of}
-use Rattle.heaps.proofs.ReachedUsed.{word_inside}
 use Rattle.occurring.specs.Visits.{visited}
 use Rattle.occurring.proofs.OccursWalk.{walked_first, walked_more, cell_used, cell_inside, walked_found, walked_all}
 use Rattle.occurring.proofs.occurring.occurs.Goals as goal
-
-pub loop-place-init : goal.loop-place-init
-loop-place-init c = (refl, λ w walked. walked)
-
-pub follow-requires : goal.follow-requires
-follow-requires c =
-    let t = tables_of c.args.memory.now in
-    record {
-      at = omega arith;
-      inside = λ k l. omega (arith, word_inside (heap_of t.heap) _ c.args.word c.requires.keeps.0 k l, c.requires.stands.1.cells);
-    }
-
-pub at-at-requires : goal.at-at-requires
-at-at-requires c = omega (arith, c.loop-place-test.true, c.len.ensures.count)
 
 pub returns-then-at-x : goal.returns-then-at-x
 returns-then-at-x c =
@@ -60,9 +45,6 @@ loop-place-preserved c =
           walked_more (heap_of t.heap) w c.args.x vs (visited c.follow-in-loop-place.new.table) c.loop-place.place c.at-at.result c.cell-held.result
           (c.loop-place.invariant.1 w first) lt c.at-at.ensures c.cell-held.ensures c.if-at-x.false c.follow-in-loop-place.ensures,
     )
-
-pub loop-place-smaller : goal.loop-place-smaller
-loop-place-smaller c = omega (arith, c.loop-place-test.true, c.len.ensures.within)
 
 pub returns : goal.returns
 returns c =

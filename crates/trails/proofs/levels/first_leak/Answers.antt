@@ -1,4 +1,4 @@
-use Rattle.std.proofs.Common.{ℕ, Bool, length, sym, ◌∙◌, arith, below_more}
+use Rattle.std.proofs.Common.{ℕ, Bool, length, sym, ◌∙◌, arith}
 use Rattle.tables.specs.declared.memory.Memory.{Memory}
 use Rattle.tables.specs.Views.{tables_of}
 use Rattle.heaps.specs.RuleTests.{leaks, oldest}
@@ -13,9 +13,6 @@ returns-then-leaks g c =
     let m = c.args.memory.now in
     sym (lowest_found (leaky m) (length (tables_of m).choices) c.loop-place.place (omega (arith, c.depth-place-end.ensures))
     (sym c.leaks.ensures ∙ c.if-leaks.true) c.loop-place.invariant)
-
-pub loop-place-preserved : goal.loop-place-preserved
-loop-place-preserved g c = below_more _ _ c.loop-place.invariant (sym c.leaks.ensures ∙ c.if-leaks.false)
 
 pub returns : goal.returns
 returns g c =

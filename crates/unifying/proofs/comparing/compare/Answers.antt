@@ -1,4 +1,4 @@
-use Rattle.std.proofs.Common.{sym, ◌∙◌, subst}
+use Rattle.std.proofs.Common.{◌≡◌, true, false, ◌≢◌, sym, ◌∙◌, subst, rules}
 use Rattle.tables.specs.Views.{tables_of}
 use Rattle.heaps.specs.LevelLaws.{Keeps}
 use Rattle.classes.specs.Classes.{merges}
@@ -6,16 +6,6 @@ use Rattle.unifying.specs.Frames.{pairs}
 use Rattle.unifying.proofs.WalkSteps.{structures_advanced}
 use Rattle.unifying.proofs.CompareSteps.{comparing, words_compared}
 use Rattle.unifying.proofs.comparing.compare.Goals as goal
-
-pub meet_structures-requires : goal.meet_structures-requires
-meet_structures-requires c =
-    let t = tables_of c.args.memory.now in
-    record {
-      stands = c.requires.stands;
-      left = subst (Keeps t) c.in-Some.ensures.0 c.end_of-a.ensures.keeps;
-      right = subst (Keeps t) c.in-Some.ensures.1 c.end_of-b.ensures.keeps;
-      room = c.requires.room;
-    }
 
 pub returns-in-Some : goal.returns-in-Some
 returns-in-Some c =
@@ -26,5 +16,7 @@ returns-in-Some c =
 
 pub returns-in-None : goal.returns-in-None
 returns-in-None c =
+    let same : c.eq.result ≡ true → c.end_of-a.result ≡ c.end_of-b.result = search rules in
+    let other : c.eq.result ≡ false → c.end_of-a.result ≢ c.end_of-b.result = search rules in
     words_compared (tables_of c.args.memory.now) (merges c.args.classes.now) (pairs c.args.frames.now) c.args.left c.args.right c.end_of-a.result c.end_of-b.result
-    c.end_of-a.ensures.end c.end_of-b.ensures.end c.in-None.ensures c.same_word.result c.same_word.ensures.same c.same_word.ensures.other
+    c.end_of-a.ensures.end c.end_of-b.ensures.end c.in-None.ensures c.eq.result same other

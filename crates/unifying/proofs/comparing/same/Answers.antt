@@ -1,22 +1,13 @@
-use Rattle.std.proofs.Common.{true, false, length, ap, arith}
+use Rattle.std.proofs.Common.{true, false, arith}
 use Rattle.tables.specs.Views.{tables_of}
 use Rattle.unifying.specs.Merging.{finished}
 use Rattle.unifying.specs.Frames.{pairs}
 use Rattle.classes.specs.Classes.{merges}
 use Rattle.unifying.proofs.SameRuns.{same_right}
 use Rattle.classes.proofs.ClassTables.{merges_few}
-use Rattle.unifying.proofs.WalkSteps.{pairs_inside, drawn_none, drawn_keeps, drawn_fewer, turn_on, turn_off, turn_less, from_start, begun}
+use Rattle.unifying.proofs.WalkSteps.{pairs_inside, drawn_none, drawn_keeps, drawn_fewer, turn_on, turn_off, turn_less, from_start}
 use Rattle.unifying.proofs.CompareSteps.{comparing}
 use Rattle.unifying.proofs.comparing.same.Goals as goal
-
-pub compare-requires : goal.compare-requires
-compare-requires c =
-    record {
-      stands = c.requires.stands;
-      left = c.requires.left;
-      right = c.requires.right;
-      room = omega (arith, ap length c.clear-2.ensures, ap length c.clear.ensures);
-    }
 
 pub returns-then-not-compare : goal.returns-then-not-compare
 returns-then-not-compare c =
@@ -24,9 +15,6 @@ returns-then-not-compare c =
     let e = c.compare.ensures in
     same_right t c.args.left c.args.right false c.requires.stands c.requires.left c.requires.right
     (from_start t t _ _ c.clear.ensures c.clear-2.ensures e (e.off c.if-not-compare.true))
-
-pub loop-i-init : goal.loop-i-init
-loop-i-init c = begun _ _ _ _ c.clear.ensures c.clear-2.ensures c.compare.ensures
 
 pub next-requires : goal.next-requires
 next-requires c = pairs_inside (tables_of c.args.memory.now) c.requires.stands (pairs c.loop-i.frames) c.loop-i.invariant.keep

@@ -1,44 +1,19 @@
-use Rattle.std.proofs.Common.{◌≡◌, ℕ, List, [], length, ap, subst, arith, Some, None}
+use Rattle.std.proofs.Common.{◌≡◌, ℕ, List, [], subst, arith, Some, None}
 use Rattle.tables.specs.Tables.{Tables}
 use Rattle.tables.specs.Views.{tables_of}
 use Rattle.unifying.specs.Merging.{finished}
 use Rattle.unifying.specs.Bindings.{Stepped}
 use Rattle.unifying.specs.Frames.{pairs}
-use Rattle.unifying.specs.Works.{merges_in, bound_in}
-use Rattle.unifying.proofs.Bindings.{stepped_none}
+use Rattle.unifying.specs.Works.{merges_in}
 use Rattle.classes.proofs.ClassTables.{merges_few}
-use Rattle.unifying.proofs.WalkSteps.{pairs_inside, drawn_none, drawn_keeps, drawn_fewer, turn_on, turn_off, turn_less, from_start, begun}
-use Rattle.unifying.proofs.UnifyWalk.{unifying, stepped_on, noted_none}
+use Rattle.unifying.proofs.WalkSteps.{pairs_inside, drawn_none, drawn_keeps, drawn_fewer, turn_on, turn_off, turn_less, from_start}
+use Rattle.unifying.proofs.UnifyWalk.{unifying, stepped_on}
 use Rattle.unifying.proofs.walking.walk.Goals as goal
 
 -- from no bindings on
+
 bare : (t u : Tables) (bs cs : List ℕ) → bs ≡ [] → Stepped t bs u cs → Stepped t [] u cs
 bare t u bs cs none-bound s = subst (λ xs. Stepped t xs u cs) none-bound s
-
-pub advance-requires : goal.advance-requires
-advance-requires c =
-    record {
-      stands = c.requires.stands;
-      left = c.requires.left;
-      right = c.requires.right;
-      room = omega (arith, ap length c.requires.idle.done, ap length c.requires.idle.unmerged);
-      noted = noted_none (tables_of c.args.memory.now) (bound_in c.args.work.now) c.requires.idle.unbound;
-    }
-
-pub returns-then-not-advance : goal.returns-then-not-advance
-returns-then-not-advance c =
-    let e = c.advance.ensures in
-    record {
-      run = from_start _ _ _ _ c.requires.idle.unmerged c.requires.idle.done e.advanced (e.advanced.off c.if-not-advance.true);
-      stepped = bare _ _ _ _ c.requires.idle.unbound e.stepped;
-    }
-
-pub loop-i-init : goal.loop-i-init
-loop-i-init c =
-    let e = c.advance.ensures in (
-      begun _ _ _ _ c.requires.idle.unmerged c.requires.idle.done e.advanced,
-      stepped_none (tables_of c.advance.new.memory) (bound_in c.advance.new.work) e.stepped.stands e.stepped.noted,
-    )
 
 pub next-requires : goal.next-requires
 next-requires c = pairs_inside (tables_of c.loop-i.memory) c.loop-i.invariant.1.stands (pairs c.loop-i.work.frames) c.loop-i.invariant.0.keep

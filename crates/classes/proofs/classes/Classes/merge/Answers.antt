@@ -13,7 +13,7 @@ hang-requires c =
       above = b.class.below;
       room = merges_few s;
       linked = hung_linked s _ _ _ _ _ _ _ c.requires.left c.requires.right c.requires.apart a.class a.root b.class b.root (inl (refl, refl))
-          a.class.below b.class.below c.if-under-over.true (omega arith) (omega (arith, low));
+          c.if-under-over.true (omega arith) (omega (arith, low));
     }
 
 pub hang-requires-then-over-under : goal.hang-requires-then-over-under
@@ -27,7 +27,7 @@ hang-requires-then-over-under c =
       above = a.class.below;
       room = merges_few s;
       linked = hung_linked s _ _ _ _ _ _ _ c.requires.left c.requires.right c.requires.apart a.class a.root b.class b.root (inr (refl, refl))
-          b.class.below a.class.below c.if-over-under.true (omega arith) (omega (arith, low));
+          c.if-over-under.true (omega arith) (omega (arith, low));
     }
 
 pub overflow_add-under : goal.overflow_add-under
@@ -47,5 +47,5 @@ hang-requires-else-over-under c =
       above = a.class.below;
       room = merges_few s;
       linked = hung_linked s _ _ _ _ _ _ _ c.requires.left c.requires.right c.requires.apart a.class a.root b.class b.root (inr (refl, refl))
-          b.class.below a.class.below (omega (arith, c.if-under-over.false)) (omega arith) (omega (arith, low));
+          (omega (arith, c.if-under-over.false)) (omega arith) (omega (arith, low));
     }

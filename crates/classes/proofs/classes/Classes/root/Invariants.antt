@@ -1,5 +1,5 @@
 use Rattle.std.proofs.Common.{◌-◌}
-use Rattle.classes.specs.Links.{at, OnWay}
+use Rattle.classes.specs.Links.{rank_at, OnWay}
 use Rattle.classes.specs.Classes.{merges}
 use Rattle.classes.proofs.classes.Classes.root.Given as goal
 
@@ -8,4 +8,4 @@ invariant-loop-at l = OnWay (merges l.self) l.initial.at l.at
 
 -- ranks rise on the way
 abbrev pub decreases-loop-at : goal.decreases-loop-at
-decreases-loop-at l = 4096 - at l.self.ranks l.at
+decreases-loop-at l = 4096 - rank_at l.self.nodes l.at

@@ -8,5 +8,5 @@ put-requires c =
       listing = c.requires.0;
       holds = c.requires.1;
       next = sym (c.follows.ensures c.requires.0 c.requires.1) ∙ c.if-follows.true;
-      ranged = read_in_place c.args.line.number c.args.line.text.now _ (sym c.in_ok-item.ensures);
+      ranged = read_in_place c.args.line.number c.args.line.text.now _ (sym c.in_ok-item.ensures.result);
     }

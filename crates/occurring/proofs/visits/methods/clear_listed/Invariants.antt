@@ -1,8 +1,7 @@
 use Rattle.std.proofs.Common.{◌≡◌, length}
-use Rattle.tables.specs.Stacks.{listed}
 use Rattle.occurring.proofs.ByteLaws.{LeftFrom}
 use Rattle.occurring.proofs.visits.methods.clear_listed.Given as goal
 
--- what is listed before place p is cleared
-abbrev pub invariant-loop-p : goal.invariant-loop-p
-invariant-loop-p l = (length l.bytes ≡ 4096) × LeftFrom l.p l.bytes (listed l.cells)
+-- what is listed before place `n-index` is cleared
+abbrev pub invariant-loop-n : goal.invariant-loop-n
+invariant-loop-n l = (length l.bytes ≡ 4096) × LeftFrom l.n-index l.bytes l.n-items

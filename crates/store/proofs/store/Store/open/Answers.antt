@@ -6,4 +6,4 @@ use Rattle.store.proofs.store.Store.open.Goals as goal
 pub invariant_of-self : goal.invariant_of-self
 invariant_of-self c =
     let s = c.args.self.now in
-    record { whole = whole_after Open s c.push_choice.new.self s.half c.in_default.ensures (search rules) }
+    record { whole = whole_after Open s c.push_choice.new.self s.half c.in_ok-admit.ensures (search rules) }

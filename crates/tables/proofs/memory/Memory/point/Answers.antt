@@ -5,9 +5,6 @@ use Rattle.tables.specs.Views.{choice_of}
 use Rattle.tables.proofs.Views.{length_turned, turned_at}
 use Rattle.tables.proofs.memory.Memory.point.Goals as goal
 
-pub overflow_sub-len-2 : goal.overflow_sub-len-2
-overflow_sub-len-2 c = omega (arith, length_turned choice_of (listed c.args.self.now.choices), c.requires)
-
 pub returns : goal.returns
 returns c =
     let points = listed c.args.self.now.choices in

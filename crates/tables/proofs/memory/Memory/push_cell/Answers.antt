@@ -1,16 +1,9 @@
-use Rattle.std.proofs.Common.{ap, arith, rules}
-use Rattle.std.proofs.lemmas.List.{length-map}
-use Rattle.cells.specs.Cells.{cell_of}
+use Rattle.std.proofs.Common.{ap}
 use Rattle.tables.specs.Stacks.{listed}
 use Rattle.tables.specs.Tables.{with_heap}
 use Rattle.tables.specs.Views.{tables_of}
 use Rattle.tables.proofs.Views.{cells_push}
 use Rattle.tables.proofs.memory.Memory.push_cell.Goals as goal
-
-pub push-requires : goal.push-requires
-push-requires c =
-    let same = length-map (listed c.args.self.now.heap) cell_of in
-    (search rules, omega (arith, same, c.requires.0))
 
 pub returns : goal.returns
 returns c =

@@ -5,9 +5,6 @@ use Rattle.tables.specs.Views.{tables_of, choice_of}
 use Rattle.tables.proofs.Views.{length_turned, turned_set}
 use Rattle.tables.proofs.memory.Memory.set_point.Goals as goal
 
-pub overflow_sub-place-2 : goal.overflow_sub-place-2
-overflow_sub-place-2 c = omega (arith, length_turned choice_of (listed c.args.self.now.choices), c.requires)
-
 pub returns : goal.returns
 returns c =
     let m = c.args.self.now in

@@ -6,8 +6,8 @@ use Rattle.unifying.specs.Walking.{Draws, Inside}
 use Rattle.unifying.proofs.frames.Frames.next.Given as goal
 
 -- what is drawn from the rows that are left is drawn from all
-abbrev pub invariant-loop-self : goal.invariant-loop-self
-invariant-loop-self l = Each Inside (pairs l.self) × ((o : Option (ℕ × ℕ)) (qs : List Pair) → Draws (pairs l.self) o qs → Draws (pairs l.initial.self) o qs)
+abbrev pub invariant-loop-frame : goal.invariant-loop-frame
+invariant-loop-frame l = Each Inside (pairs l.self) × ((o : Option (ℕ × ℕ)) (qs : List Pair) → Draws (pairs l.self) o qs → Draws (pairs l.initial.self) o qs)
 
-abbrev pub decreases-loop-self : goal.decreases-loop-self
-decreases-loop-self l = length (pairs l.self)
+abbrev pub decreases-loop-frame : goal.decreases-loop-frame
+decreases-loop-frame l = length (pairs l.self)

@@ -1,6 +1,0 @@
-use Rattle.std.proofs.Common.{arith}
-use Rattle.tables.proofs.Lengths.{used_fits, trail_fits, depth_fits}
-use Rattle.checking.proofs.lines.heap_top_line.Goals as goal
-
-pub overflow_add-result : goal.overflow_add-result
-overflow_add-result c = omega (arith, used_fits c.args.memory.now, trail_fits c.args.memory.now, depth_fits c.args.memory.now)
