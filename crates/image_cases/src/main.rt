@@ -69,7 +69,7 @@ struct Run {
 // Why a line of the data is not taken.
 #[derive(Drop)]
 enum LineError {
-    // it cannot be read, or says what was said already
+    // it cannot be read, stands before the first case, or says what was said already
     NotRead,
     Io(io::Error),
 }

@@ -16,7 +16,7 @@ impl From<Result<Usage, Refused>> for Numbers {
     fn from(described: Result<Usage, Refused>) -> Numbers {
         match described {
             Ok(usage) => Numbers([0, 0, 0, usage.used, usage.entries, usage.points]),
-            // no fault of an image stands for this refusal, so its number stands here
+            // a length is no fault that an image can have, so no LoadFault gives this number
             Err(Refused::TooLong) => Numbers([10, 0, 0, 0, 0, 0]),
             Err(Refused::Fault(fault)) => {
                 let refusal = fault.refusal().number() as u64;

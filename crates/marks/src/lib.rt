@@ -38,7 +38,7 @@ pub trait Marks {
 pub fn count_below<M: Marks>(marks: &M, n: u64) -> u64
     ensures { result ≡ count_below (M.Marks.has marks.now) n }
 {
-    // a loop, since the proof of `filter` and `count` over a range does not close where the test is a trait's method
+    // a loop, since the proof of `filter` and `count` over a range does not close where each number is asked of a trait's method
     let mut count = 0;
     for k in 0..n.min(CELLS) {
         if marks.marked(k) {

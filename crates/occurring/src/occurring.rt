@@ -38,7 +38,8 @@ pub fn occurs(memory: &Memory, x: u64, word: Cell, table: &mut VisitTable) -> bo
     false
 }
 
-// Visits what the word in the cell `at` leads to: `follow` of marking, with a table in place of marks and waiting cells.
+// Visits what the word in the cell `at` leads to: `follow` of marking notes in any order and asks for room, and
+// here the contract is the order of the visits, so each has its own.
 fn follow(at: u64, word: Cell, table: &mut VisitTable)
     requires at { at < 4096 }
     requires inside { (k : ℕ) → LeadsBy at word k → k < 4096 }

@@ -45,7 +45,8 @@ impl<'a> Machine<'a> {
         result
     }
 
-    // Each call says itself what it keeps of base, levels and half_in: its own promise speaks of two states, so it is no invariant.
+    // Each call says itself what it keeps of `base`, `half_in` and the oldest choice point: such a promise speaks of two states, so
+    // it is no invariant.
     pub(crate) fn atom(&mut self, d: u64, n: u64) -> Result<(), Refusal>
         ensures result { (told nothing result, state self.new.store) ≡ called (Atom d n) self.old.store }
         ensures kept { base self.new.store ≡ base self.old.store }

@@ -24,7 +24,8 @@ impl Tried {
     }
 }
 
-// An atom by its name: zones, strengths and labels of echoes. An atom is printed by its number alone, whatever it names.
+// An atom by its name: zones, strengths and labels of echoes. The name is found by the
+// number alone, since an answer does not say what its atom stands for.
 #[derive(Clone, Copy)]
 struct Name(u64);
 

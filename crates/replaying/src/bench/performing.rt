@@ -18,7 +18,7 @@ fn carry_out(store: &mut Store, place: &mut Option<Slip>, request: Request) -> R
     requires { Agrees (state store.old) (slip_of place.old) }
     ensures { (result, bench_of store.new place.new) ≡ performed request (bench_of store.old place.old) }
 {
-    // each arm is a reply; for a match to an Answer the five calls with a slip would return from its midst
+    // each arm is a reply; in a match to an Answer, put, hole, done and void would return NoSlip from its midst
     match request {
         Request::Var { d } => Reply::Answered(store.var(d).into()),
         Request::Atom { d, n } => Reply::Answered(store.atom(d, n).into()),
