@@ -4,7 +4,6 @@ use Rattle.std.specs.Bool.{⊤}
 use Rattle.std.specs.Fn.{Called, CalledAt}
 use Rattle.std.specs.Iterator.{FindsItem, FindsPosition}
 use Rattle.std.specs.List.{AllWithin, HoldsAt, range_with_len}
-use Rattle.std.specs.Option.{option_or}
 use Rattle.std.specs.declared.ops.Range.{Range}
 use Rattle.std.proofs.iter.Yields.{nat_range_steps}
 use Rattle.std.proofs.lemmas.Iterator.{first_from_Range, IsFirst-from_position, YieldsList-from_range}
@@ -96,9 +95,10 @@ module _ {o : Option ℕ} (p : ℕ → Bool) (n : ℕ) (e : o ≡ lowest_from 0 
 pub only_part : {r x : Option ℕ} → r ≡ x → r ≡ or_else x None
 only_part {r} {x} e = e ∙ sym (or_none x)
 
-pub either_part : {a b r x y : Option ℕ} → a ≡ x → b ≡ y → r ≡ option_or a b → r ≡ or_else x (or_else y None)
-either_part {a} {b} {r} {x} {y} e f h = h ∙ by a ∙ ap (λ (o : Option ℕ). or_else o (or_else b None)) e ∙ ap (λ (o : Option ℕ). or_else x (or_else o None)) f
+-- The next part is gone through where this one has no fault.
+pub part_then : {P : Type 0} {a r x z : Option ℕ} → a ≡ x → MatchOption a P (λ i. r ≡ Some i) → (P → r ≡ z) → r ≡ or_else x z
+part_then {P} {a} {r} {x} {z} e h next = by a h ∙ ap (λ (o : Option ℕ). or_else o z) e
   where
-    by : (o : Option ℕ) → option_or o b ≡ or_else o (or_else b None)
-    by None = sym (or_none b)
-    by (Some i) = refl
+    by : (o : Option ℕ) → MatchOption o P (λ i. r ≡ Some i) → r ≡ or_else o z
+    by None h = next h
+    by (Some i) h = h

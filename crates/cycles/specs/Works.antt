@@ -18,11 +18,16 @@ abbrev pub parent_of : Walk → ℕ → ℕ
 parent_of w i = (slice_index_or w.notes i nothing).parent
 
 -- nothing is noted of any cell, no cell waits or is entered, and the first component that is left gets the highest rank
-pub record NewWalk (w : Walk) : Type 0 where
+pub record Cleared (w : Walk) : Type 0 where
   pub notes : w.notes ≡ replicate 4096 nothing
   pub waiting : listed w.waiting ≡ []
   pub entered : w.entered ≡ 0
   pub rank : w.rank ≡ 8192
+
+-- a walk as it is made: each place of the stack, which are all spare, holds 0 too
+pub record NewWalk (w : Walk) : Type 0 where
+  pub cleared : Cleared w
+  pub spare : w.waiting.items ≡ replicate 4096 0
 
 pub record NewWork (w : CycleWork) : Type 0 where
   pub walk : NewWalk w.walk

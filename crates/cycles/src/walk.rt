@@ -1,6 +1,6 @@
 // Ranks of cells, and a way round a cycle, by walks from cell to cell. Nothing is promised of either: `certificate` checks them.
 ghost use Rattle.std.specs.Prelude.{◌≡◌, ◌<◌, slice_index_or};
-ghost use Rattle.cycles.specs.Works.{nothing, NewWalk, rank_of, parent_of};
+ghost use Rattle.cycles.specs.Works.{nothing, Cleared, NewWalk, rank_of, parent_of};
 
 use super::leads::leads;
 use tables::{Memory, Stack};
@@ -70,12 +70,19 @@ impl Walk {
         usize::from(self.note(cell).parent)
     }
 
-    // Gives each cell the rank of its component: cells that lead to each other have the same, other leads go to a higher rank.
-    pub fn rank_cells(&mut self, memory: &Memory) {
+    // Forgets what was noted, as before the first walk.
+    fn clear(&mut self)
+        ensures { Cleared self.new }
+    {
         self.notes = [Note::default(); 4096];
         self.waiting.truncate(0);
         self.entered = 0;
         self.rank = HIGHEST;
+    }
+
+    // Gives each cell the rank of its component: cells that lead to each other have the same, other leads go to a higher rank.
+    pub fn rank_cells(&mut self, memory: &Memory) {
+        self.clear();
         for root in 0..memory.used() as u16 {
             if self.rank(usize::from(root)) == 0 {
                 self.walk_from(memory, root);

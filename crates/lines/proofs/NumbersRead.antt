@@ -1,54 +1,37 @@
--- `parse` reads the number that a word of digits stands for.
-use Rattle.std.proofs.Common.{◌≡◌, ℕ, ◌^◌, ◌<◌, Bool, true, false, ◌&&◌, ltb, List, length, ◌∷◌, [], Some, None, Ok, Err, Result, sym, refl, ap, ◌∙◌, rules, arith}
-use Rattle.std.specs.Str.{all_ascii_digits, IsUtf8}
-use Rattle.std.specs.Str.Parse.{ParsesUnsigned}
-use Rattle.std.specs.Result.{OkIff, MatchResult, result_ok}
-use Rattle.std.specs.Borrow.{Bor}
-use Rattle.std.proofs.lemmas.Str.{IsUtf8-from_ascii}
-use Rattle.std.proofs.lemmas.Str.Parse.{IsNumeralModel, numerals_by_fold, tells_all_ascii_digits, parse_digits}
-use Rattle.std.proofs.lemmas.Fmt.{IsAscii-from_digits}
-use Rattle.std.proofs.lemmas.Bool.{and_parts, cond-true, cond-false, lt-ltb, ltb-true}
-use Rattle.std.specs.Char.{is_ascii_digit}
-use Rattle.std.specs.List.{list_all}
+-- Going over the digits of a word reads the number that they stand for, or finds that it has more than 64 bits.
+use Rattle.std.proofs.Common.{◌≡◌, ℕ, ◌+◌, ◌-◌, ◌*◌, ◌^◌, ◌<◌, ◌≤◌, Bool, true, false, cond, ◌&&◌, List, [], ◌∷◌, length, get_or, drop, Some, None, sym, refl, ap, ◌∙◌, rules, arith}
+use Rattle.std.specs.Str.{all_ascii_digits}
+use Rattle.std.proofs.lemmas.Str.Parse.{IsNumeralModel, numerals_by_fold, tells_all_ascii_digits}
+use Rattle.std.proofs.lemmas.List.{at_drop_more, at_drop_all}
+use Rattle.std.proofs.lemmas.Bool.{and_from, cond-true, cond-false, lt-ltb, le-ltb}
 use Rattle.lines.specs.Words.{read_on, no_leading_zero, natural64, below64}
-use Rattle.lines.proofs.Options.{not_some}
-
-digits_tested : (w : List ℕ) → list_all is_ascii_digit w ≡ all_ascii_digits w
-digits_tested [] = refl
-digits_tested (c ∷ cs) = ap (λ t. is_ascii_digit c && t) (digits_tested cs)
 
 -- the number that digits stand for, in the words of std
 pub own : IsNumeralModel (λ ds. all_ascii_digits ds ≡ true) (read_on 0)
 own = numerals_by_fold (λ ds. all_ascii_digits ds ≡ true) tells_all_ascii_digits read_on (search rules)
 
-module _ (w : List ℕ) (tested : (no_leading_zero w && list_all is_ascii_digit w) ≡ true) where
-  pub numeral : (no_leading_zero w && all_ascii_digits w) ≡ true
-  numeral = sym (ap (λ t. no_leading_zero w && t) (digits_tested w)) ∙ tested
+-- more digits never make a number smaller
+reads_up : (n : ℕ) (cs : List ℕ) → n ≤ read_on n cs
+reads_up n [] = omega arith
+reads_up n (c ∷ cs) = let h = reads_up (10 * n + (c - 48)) cs in omega (arith, h)
 
-  pub utf8 : IsUtf8 w
-  utf8 = IsUtf8-from_ascii w (IsAscii-from_digits w (own.to w (and_parts _ _ numeral).1))
-
-  pub parsed : {E : Type 0} (r : Result ℕ E) → ParsesUnsigned 64 10 w r → result_ok r ≡ natural64 w
-  parsed {E} r h = by r (parse_digits own 64 w r h (and_parts _ _ numeral).1) ∙ ap below64 (sym (cond-true _ _ _ numeral))
+-- the bytes before the i-th are read as the number n
+module _ (w : List ℕ) (n i : ℕ) (digits : all_ascii_digits w ≡ all_ascii_digits (drop i w)) (number : read_on 0 w ≡ read_on n (drop i w)) where
+  -- with the next digit the number has more than 64 bits
+  pub too_large : i < length w → 2 ^ 64 ≤ 10 * n + (get_or w i 0 - 48) → None ≡ natural64 w
+  too_large low high = test (no_leading_zero w && all_ascii_digits w)
     where
-      some : (w : List ℕ) → no_leading_zero w ≡ true → 0 < length w
-      some [] e = absurd (let z : ◌≡◌ {A = ℕ} 0 1 = cc in omega arith)
-      some (c ∷ cs) e = omega arith
+      most : 10 * n + (get_or w i 0 - 48) ≤ read_on 0 w
+      most =
+          let h = reads_up (10 * n + (get_or w i 0 - 48)) (drop (i + 1) w) in
+          omega (arith, h, number ∙ at_drop_more (read_on n) w i 0 low)
 
-      by : (r : Result ℕ E) → OkIff r ((0 < length w) × (read_on 0 w < 2 ^ 64)) (read_on 0 w) → result_ok r ≡ below64 (Some (read_on 0 w))
-      by (Ok n) h = ap Some h.1 ∙ sym (cond-true _ _ _ (lt-ltb _ _ h.0.1))
-      by (Err e) h = sym (cond-false _ _ _ (test (ltb (read_on 0 w) (2 ^ 64)) refl))
-        where
-          test : (t : Bool) → ltb (read_on 0 w) (2 ^ 64) ≡ t → ltb (read_on 0 w) (2 ^ 64) ≡ false
-          test true is = absurd (h (some w (and_parts _ _ numeral).0, ltb-true _ _ is))
-          test false is = is
+      test : (t : Bool) → None ≡ below64 (cond t (Some (read_on 0 w)) None)
+      test true = sym (cond-false _ _ _ (le-ltb (read_on 0 w) (2 ^ 64) (omega (arith, high, most))))
+      test false = refl
 
--- what `from_utf8` answers
-module _ {E : Type 0} (w : List ℕ) (Q : E → Type 0) where
-  pub text_is : (r : Result (Bor (List ℕ)) E) (s : Bor (List ℕ)) → MatchResult r (λ t. (t.now ≡ w) × IsUtf8 w) (λ e. ¬ (IsUtf8 w) × Q e) → result_ok r ≡ Some s → s.now ≡ w
-  text_is (Ok t) s h e = let same : t ≡ s = cc in ap (λ v. v.now) (sym same) ∙ h.0
-  text_is (Err f) s h e = absurd (not_some e)
-
-  pub text_fails : (r : Result (Bor (List ℕ)) E) → MatchResult r (λ t. (t.now ≡ w) × IsUtf8 w) (λ e. ¬ (IsUtf8 w) × Q e) → result_ok r ≡ None → IsUtf8 w → ⊥
-  text_fails (Ok t) h e fine = not_some (sym e)
-  text_fails (Err f) h e fine = h.0 fine
+  -- all bytes are read
+  pub number_all : length w ≤ i → n < 2 ^ 64 → no_leading_zero w ≡ true → Some n ≡ natural64 w
+  number_all all low plain =
+      let read : natural64 w ≡ below64 (Some (read_on 0 w)) = ap below64 (cond-true _ _ _ (and_from _ _ plain (digits ∙ at_drop_all all_ascii_digits w i all))) in
+      sym (read ∙ ap (λ m. below64 (Some m)) (number ∙ at_drop_all (read_on n) w i all) ∙ cond-true _ _ _ (lt-ltb n (2 ^ 64) low))

@@ -1,10 +1,8 @@
-ghost use Rattle.std.specs.Prelude.{◌≡◌, true, false, ◌&&◌, Some, Ok, Err};
+ghost use Rattle.std.specs.Prelude.{◌≡◌, ◌-◌, true, false, cond, Some, None, Ok, Err};
 ghost use Rattle.std.specs.Char.{is_ascii_digit};
-ghost use Rattle.std.specs.List.{list_all};
 ghost use Rattle.lines.specs.Words.{no_leading_zero, natural64, negative, integer64, kind_of, part_named, Reads, word_shaped, part_in, kind_in, natural_in, integer_in};
 
 use super::fault::WordFault;
-use std::str;
 
 // The kind that a letter of an image stands for.
 #[derive(Clone, Copy, PartialEq, Eq)]
@@ -62,21 +60,30 @@ pub fn no_leading_zero(word: &[u8]) -> bool
     }
 }
 
-// Decimal digits without a leading zero.
-fn is_numeral(word: &[u8]) -> bool
-    ensures { result ≡ (no_leading_zero word.now && list_all is_ascii_digit word.now) }
+// The value of a decimal digit.
+fn digit_of(byte: u8) -> Option<u64>
+    ensures { result ≡ cond (is_ascii_digit byte) (Some (byte - 48)) None }
 {
-    no_leading_zero(word) && word.iter().all(|b| b.is_ascii_digit())
+    match byte {
+        b'0'..=b'9' => Some((byte - b'0') as u64),
+        _ => None,
+    }
 }
 
-// The number of at most 64 bits that a word of digits stands for.
+// The number of at most 64 bits that a word of digits stands for. It is read in one pass, which ends at the first byte that
+// is no digit, or at the first digit that 64 bits have no room for; `from_utf8` and `parse` would each go through the word again.
 pub fn natural(word: &[u8]) -> Option<u64>
     ensures { result ≡ natural64 word.now }
 {
-    if !is_numeral(word) {
+    if !no_leading_zero(word) {
         return None;
     }
-    str::from_utf8(word).ok()?.parse().ok()
+    let mut n: u64 = 0;
+    for byte in word {
+        let digit = digit_of(*byte)?;
+        n = n.checked_mul(10)?.checked_add(digit)?;
+    }
+    Some(n)
 }
 
 // The integer of the given size below 0; there is no minus before 0.

@@ -3,5 +3,4 @@
 
 pub mod store;
 
-pub use store::{Slip, Store};
-pub use tables::Usage;
+pub use store::{Slip, Store, Usage};

@@ -4,6 +4,7 @@ ghost use Rattle.refusing.specs.States.{state_of};
 use calls::Draft;
 use refusing::Half;
 use tables::Memory;
+pub use tables::Usage;
 use unifying::Work;
 
 mod choices;

@@ -1,4 +1,4 @@
-ghost use Rattle.std.specs.Prelude.{◌≡◌, ℕ, ◌<◌, List, [], ◌∷◌, ◌++◌, length, take, slice_index_or, slice_set, option_to_list, IsSome, ◌↔◌};
+ghost use Rattle.std.specs.Prelude.{◌≡◌, ℕ, ◌<◌, List, [], ◌∷◌, ◌++◌, length, take, slice_index_or, slice_set, replicate, option_to_list, IsSome, ◌↔◌};
 ghost use Rattle.tables.specs.Stacks.{listed};
 
 use super::Stack;
@@ -6,7 +6,8 @@ use super::Stack;
 impl<T: Copy, const N: usize> Stack<T, N> {
     // Nothing in use; `blank` fills the spare places.
     pub fn new(blank: T) -> Stack<T, N>
-        ensures { listed result ≡ [] }
+        ensures empty { listed result ≡ [] }
+        ensures spare { result.items ≡ replicate N blank }
     {
         Stack {
             items: [blank; N],

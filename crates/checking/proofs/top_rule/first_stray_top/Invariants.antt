@@ -4,6 +4,3 @@ use Rattle.checking.proofs.top_rule.first_stray_top.Given as goal
 
 abbrev pub ghost-first_stray : goal.ghost-first_stray
 ghost-first_stray a = λ p. (oldest (tables_of a.top.0.now) p).heap_top
-
-abbrev pub ghost-first_stray-2 : goal.ghost-first_stray-2
-ghost-first_stray-2 a = λ p. (oldest (tables_of a.top.0.now) p).trail_top

@@ -1,14 +1,26 @@
-use Rattle.std.proofs.Common.{sym, ◌∙◌}
-use Rattle.lines.proofs.NumbersRead.{utf8, parsed, text_is, text_fails}
+use Rattle.std.proofs.Common.{◌≡◌, ◌+◌, ◌-◌, ◌*◌, ◌^◌, ◌≤◌, true, get_or, sym, ◌∙◌, arith, rules, tests}
+use Rattle.lines.specs.Words.{no_leading_zero}
+use Rattle.lines.proofs.NumbersRead.{too_large, number_all}
 use Rattle.lines.proofs.word.natural.Goals as goal
 
-pub returns-in_err-ok : goal.returns-in_err-ok
-returns-in_err-ok c =
+pub returns-in_err-checked_mul : goal.returns-in_err-checked_mul
+returns-in_err-checked_mul c =
     let w = c.args.word.now in
-    absurd (text_fails w _ c.from_utf8.result c.from_utf8.ensures.cases (sym c.ok.ensures.value ∙ c.in_err-ok.was) (utf8 w (sym c.is_numeral.ensures ∙ c.if-not-is_numeral.false)))
+    let inv = c.loop-byte.invariant in
+    let much : 2 ^ 64 ≤ c.loop-byte.n * 10 = search (rules, tests) in
+    c.from_residual-in_err-checked_mul.ensures
+    ∙ too_large w c.loop-byte.n c.loop-byte.byte-index inv.0 inv.1 c.loop-byte-test.true (omega (arith, much))
+
+pub returns-in_err-n : goal.returns-in_err-n
+returns-in_err-n c =
+    let w = c.args.word.now in
+    let inv = c.loop-byte.invariant in
+    let much : 2 ^ 64 ≤ 10 * c.loop-byte.n + (get_or w c.loop-byte.byte-index 0 - 48) = search (rules, tests) in
+    c.from_residual-in_err-n.ensures ∙ too_large w c.loop-byte.n c.loop-byte.byte-index inv.0 inv.1 c.loop-byte-test.true much
 
 pub returns : goal.returns
 returns c =
     let w = c.args.word.now in
-    let text = text_is w _ c.from_utf8.result c.in_ok-ok.field-0 c.from_utf8.ensures.cases (sym c.ok.ensures.value ∙ c.in_ok-ok.was) in
-    c.ok-2.ensures.value ∙ parsed w (sym c.is_numeral.ensures ∙ c.if-not-is_numeral.false) c.parse.result (rw text at c.parse.ensures.value.0)
+    let inv = c.loop-byte.invariant in
+    let plain : no_leading_zero w ≡ true = sym c.no_leading_zero.ensures ∙ c.if-not-no_leading_zero.false in
+    number_all w c.loop-byte.n c.loop-byte.byte-index inv.0 inv.1 (search rules) inv.2 plain

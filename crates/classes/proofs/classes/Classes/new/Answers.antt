@@ -11,5 +11,5 @@ invariant_of-result c =
     let bare = linked_none (link_at nodes) (rank_at nodes) (λ x. ap (λ (n : Node). n.link) (roots 4096 x)) (λ x. ap (λ (n : Node). n.rank) (roots 4096 x)) in
     record {
       whole = refl;
-      linked = ∣ subst (λ ms. Linked ms (link_at nodes) (rank_at nodes)) (sym (ap (λ l. reverse (map merge_of l)) c.new.ensures)) bare ∣₁;
+      linked = ∣ subst (λ ms. Linked ms (link_at nodes) (rank_at nodes)) (sym (ap (λ l. reverse (map merge_of l)) c.new.ensures.empty)) bare ∣₁;
     }

@@ -5,7 +5,7 @@ use Rattle.occurring.proofs.visits.VisitTable.new.Goals as goal
 
 pub invariant_of-result : goal.invariant_of-result
 invariant_of-result c =
-    let none = c.new.ensures in
+    let none = c.new.ensures.empty in
     record {
       whole = refl;
       ones = subst (Ones (replicate 4096 0)) (sym none) (ones_blank 4096);
